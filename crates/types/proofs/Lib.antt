@@ -1,0 +1,4 @@
+pub mod Below
+pub mod MulDivLaws
+pub mod WideLaws
+pub mod BoolArrayLaws

@@ -1,0 +1,5 @@
+pub mod Base
+pub mod Refusals
+pub mod MulDiv
+pub mod Wide
+pub mod BoolArray

@@ -1,0 +1,62 @@
+// A mark for each of up to 1,024 rows.
+ghost use mathlib.Core.Path.{_≡_};
+ghost use Prim.Native.Nat.{_≤_, _<_, _^_};
+ghost use lib.Count.{ones};
+ghost use lib.ListN.{replicate};
+ghost use Rattle.types.specs.BoolArray.{marked, withMark, markedRows, OnesOf};
+
+// The Rust's BoolArray, its Vec of bytes a fixed array of words.
+pub struct BoolArray {
+    pub words: [u64; 16],
+}
+
+// The ones of a word.
+fn ones_of(w: u64) -> usize
+    ensures { λ r. ⌜ OnesOf w r ⌝ }
+{
+    u64::count_ones(w) as usize
+}
+
+impl BoolArray {
+    pub fn new() -> BoolArray
+        ensures { λ r. ⌜ r .words ≡ replicate 16 0 ⌝ }
+    {
+        BoolArray { words: [0u64; 16] }
+    }
+
+    // Whether row i is marked.
+    pub fn get(self, i: usize) -> bool
+        ensures { λ r. ⌜ r ≡ marked (self .words) i ⌝ }
+    {
+        if 1024 <= i {
+            return false;
+        }
+        let w = self.words[i / 64];
+        (w >> (i % 64)) % 2 == 1
+    }
+
+    // The marks with row i marked too.
+    pub fn set(self, i: usize) -> BoolArray
+        ensures { λ r. ⌜ r .words ≡ withMark (self .words) i ⌝ }
+    {
+        if 1024 <= i {
+            return self;
+        }
+        let k = i / 64;
+        let mut next = self;
+        let w = next.words[k];
+        next.words[k] = w | (1u64 << (i % 64));
+        next
+    }
+
+    // How many rows are marked: the ones, counted over the mark words.
+    pub fn count(self) -> usize
+        ensures { λ r. ⌜ r ≡ markedRows (self .words) ⌝ }
+    {
+        let mut n: usize = 0;
+        for k in 0..16usize {
+            n += ones_of(self.words[k]);
+        }
+        n
+    }
+}
