@@ -24,6 +24,11 @@ pub data Outcome (A : Type 0) : Type 0 where
   refused : ℕ → Outcome A
   accepted : A → Outcome A
 
+-- an outcome by what a function takes from its values
+abbrev pub mapOutcome : {A B : Type 0} → (A → B) → Outcome A → Outcome B
+mapOutcome f (refused n) = refused n
+mapOutcome f (accepted a) = accepted (f a)
+
 -- a test holds of every number below n
 unfoldable pub allBelow : ℕ → (ℕ → Bool) → Bool
 allBelow zero f = true

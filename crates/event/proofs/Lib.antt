@@ -1,0 +1,4 @@
+pub mod EligibleLaws
+pub mod AdjustLaws
+pub mod RewardLaws
+pub mod Examples
