@@ -74,5 +74,8 @@ past-says n r e q = go (ltb n (2 ^ 64)) refl (sym e ∙ q)
     go true l h = let z : _≡_ {A = ℕ} 0 1 = cc in absurd (omega arith)
     go false l h = ltb-false n (2 ^ 64) l
 
+pub past-in : (x y : ℕ) → 18446744073709551615 - x < y → 2 ^ 64 ≤ x + y
+past-in x y h = omega arith
+
 pub fits-in : (x y : ℕ) → x ≤ 18446744073709551615 - y → y ≤ 18446744073709551615 → x + y < 2 ^ 64
 fits-in x y h l = omega arith

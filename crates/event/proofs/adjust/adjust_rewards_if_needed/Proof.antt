@@ -1,11 +1,11 @@
 -- `adjust::adjust_rewards_if_needed` meets its contract. Assumes nothing.
-use mathlib.Core.Path.{_≡_, refl, sym, ap, _∙_}
-use Prim.Native.Nat.{ℕ, _+_, _-_, _*_, _/_, _^_, _<_, _≤_}
+use mathlib.Core.Path.{_≡_, sym, _∙_}
+use Prim.Native.Nat.{_+_, _-_, _<_}
 use native.Mathlib.Omega.{arith}
 use borrow.Author.Needs.{needs}
 use Rattle.types.specs.Base.{M, word}
-use Rattle.types.proofs.MulDivLaws.{Floor, fits-says, past-floor, floor-lt}
-use Rattle.event.specs.Adjust.{rewardsOf, loweredBy, adjustOf}
+use Rattle.types.proofs.MulDivLaws.{fits-says, past-floor}
+use Rattle.event.specs.Adjust.{rewardsOf}
 use Rattle.event.proofs.AdjustLaws.{adjust-13, adjust-14, adjust-kept, adjust-lowered}
 use Rattle.event.proofs.adjust.adjust_rewards_if_needed.Statement.{statement}
 use Rattle.event.proofs.adjust.adjust_rewards_if_needed.Tie as tie

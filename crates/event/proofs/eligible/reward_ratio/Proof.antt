@@ -1,11 +1,10 @@
 -- `eligible::reward_ratio` meets its contract. Assumes nothing.
-use mathlib.Core.Path.{_≡_, refl, sym, ap, _∙_}
+use mathlib.Core.Path.{_≡_, sym, _∙_}
 use Prim.Native.Nat.{ℕ, _*_, _^_, _<_, _≤_}
 use native.Mathlib.Omega.{arith}
 use borrow.Author.Needs.{needs}
 use Rattle.types.specs.Base.{M}
-use Rattle.types.specs.MulDiv.{mulDivOf}
-use Rattle.types.proofs.MulDivLaws.{Floor, fits-says, past-says}
+use Rattle.types.proofs.MulDivLaws.{fits-says, past-says}
 use Rattle.event.proofs.EligibleLaws.{ratio-none, ratio-some, ratio-whole}
 use Rattle.event.proofs.eligible.reward_ratio.Statement.{statement}
 use Rattle.event.proofs.eligible.reward_ratio.Tie as tie

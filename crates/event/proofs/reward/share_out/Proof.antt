@@ -1,12 +1,11 @@
 -- `event::share_out` meets its contract. Assumes nothing.
-use mathlib.Core.Path.{_≡_, refl, sym, ap, _∙_}
-use mathlib.Core.Bool.{Bool, true, false}
-use Prim.Native.Nat.{ℕ, _+_, _-_, _*_, _/_, _^_, _<_, _≤_}
+use mathlib.Core.Path.{_≡_, sym, _∙_}
+use mathlib.Core.Bool.{false}
+use Prim.Native.Nat.{_-_, _*_, _/_}
 use native.Mathlib.Omega.{arith}
 use borrow.Author.Needs.{needs}
 use Rattle.types.specs.Base.{M}
-use Rattle.types.proofs.MulDivLaws.{Floor, fits-says, past-floor}
-use Rattle.event.specs.Reward.{shared}
+use Rattle.types.proofs.MulDivLaws.{fits-says, past-floor}
 use Rattle.event.proofs.RewardLaws.{shared-self, shared-13, shared-parts}
 use Rattle.event.proofs.reward.share_out.Statement.{statement}
 use Rattle.event.proofs.reward.share_out.Tie as tie

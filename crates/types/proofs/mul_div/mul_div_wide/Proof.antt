@@ -1,10 +1,7 @@
 -- `mul_div::mul_div_wide` meets its contract. Assumes nothing.
-use mathlib.Core.Path.{_≡_, ap}
-use Prim.Native.Nat.{ℕ, _+_, _*_, _^_, _<_, _≤_}
-use native.Mathlib.Nat.{lt-of-le-of-lt}
+use Prim.Native.Nat.{ℕ, _*_, _^_, _<_}
 use native.Mathlib.Omega.{arith}
 use borrow.Author.Needs.{needs}
-use Rattle.types.specs.MulDiv.{Division}
 use Rattle.types.proofs.MulDivLaws.{fits-at, past-at, upper-below, upper-above, one-word}
 use Rattle.types.proofs.mul_div.mul_div_wide.Statement.{statement}
 use Rattle.types.proofs.mul_div.mul_div_wide.Tie as tie

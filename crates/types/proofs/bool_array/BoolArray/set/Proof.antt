@@ -1,36 +1,28 @@
+-- `types::bool_array::BoolArray::set` meets its contract. Assumes nothing.
 use Rattle.types.proofs.BoolArrayLaws.{set-past, set-bit}
 use native.Mathlib.Omega.{arith}
 use borrow.Author.Needs.{needs}
 use Rattle.types.proofs.bool_array.BoolArray.set.Statement.{statement}
 use Rattle.types.proofs.bool_array.BoolArray.set.Tie as tie
-use Rattle.types.proofs.bool_array.BoolArray.set.Reads as reads
-use Rattle.types.proofs.bool_array.BoolArray.set.Lts as lts
 
--- src/bool_array.rt:43:13
 returns : tie.Need-returns
 returns c = set-past _ _ (omega arith)
 
--- src/bool_array.rt:47:17
 mul-w : tie.Need-mul-w
 mul-w c = search needs
 
--- src/bool_array.rt:47:17
 element-copy-out-w : tie.Need-element-copy-out-w
 element-copy-out-w c = search needs
 
--- src/bool_array.rt:48:30
 shl-next : tie.Need-shl-next
 shl-next c = search needs
 
--- src/bool_array.rt:48:9
 mul-next : tie.Need-mul-next
 mul-next c = search needs
 
--- src/bool_array.rt:48:9
 element-write-next : tie.Need-element-write-next
 element-write-next c = search needs
 
--- src/bool_array.rt:39:5
 returns-2 : tie.Need-returns-2
 returns-2 c = set-bit _ _ (omega arith)
 
