@@ -1,1 +1,4 @@
 pub mod KeyLaws
+pub mod StateLaws
+pub mod PositionsLaws
+pub mod Examples

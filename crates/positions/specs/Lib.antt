@@ -1,1 +1,3 @@
 pub mod Key
+pub mod State
+pub mod Positions

@@ -18,3 +18,6 @@ pub fn same_key(a: Key, b: Key) -> bool
     }
     false
 }
+
+pub mod list;
+pub mod position;
