@@ -1,12 +1,11 @@
 -- Laws of a side's changes, one for each way out of the code. Assumes nothing.
-use mathlib.Core.Path.{_≡_, refl, sym, ap, _∙_}
+use mathlib.Core.Path.{_≡_, refl, sym, ap}
 use mathlib.Core.Bool.{Bool, true, false}
 use Prim.Native.Nat.{ℕ, _+_, _-_, _%_, _≤_, _<_}
 use native.Mathlib.Nat.{mod-eq-of-lt}
 use native.Mathlib.Omega.{arith}
-use lib.Dec.{leb, ltb}
 use borrow.Author.Tests.{le-leb, lt-leb, lt-ltb, le-ltb}
-use Rattle.types.specs.Base.{word, half, Outcome, refused, accepted}
+use Rattle.types.specs.Base.{word, half, refused, accepted}
 use Rattle.types.specs.Refusals.{doesNotFit}
 use Rattle.positions.specs.declared.position.PositionState.{PositionState}
 use Rattle.positions.specs.declared.position.PositionState.the-variants.{LOCKED}

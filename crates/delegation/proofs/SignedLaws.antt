@@ -1,13 +1,13 @@
 -- The definitions on signed words are signed arithmetic: by the place of a word among the signed words, 0 for -2^63 and `half` for 0,
 -- each answer is the sum or the difference, and each 13 has its number out of range. Assumes nothing.
-use mathlib.Core.Path.{_≡_, refl, sym, ap, _∙_}
+use mathlib.Core.Path.{_≡_, refl, sym}
 use mathlib.Core.Logic.{_⊎_, inl, inr}
 use mathlib.Core.Bool.{Bool, true, false, _&&_, false≢true}
 use Prim.Native.Nat.{ℕ, _+_, _-_, _%_, _≤_, _<_}
 use native.Mathlib.Omega.{arith}
 use lib.Dec.{leb, ltb}
 use borrow.Author.Tests.{leb-true, leb-false, ltb-true, ltb-false}
-use Rattle.types.specs.Base.{word, half, if_then_else_, Outcome, refused, accepted}
+use Rattle.types.specs.Base.{word, half, if_then_else_, refused, accepted}
 use Rattle.types.specs.Refusals.{doesNotFit}
 use Rattle.delegation.specs.Side.{raisedOf, loweredOf, rolled, rollFits}
 

@@ -1,5 +1,5 @@
 -- One side's total and change (items 4 and 9 of document 01), on numbers. The change is the word of the image. Assumes nothing.
-use mathlib.Core.Bool.{Bool, true, _&&_}
+use mathlib.Core.Bool.{Bool, _&&_}
 use Prim.Native.Nat.{ℕ, _+_, _-_, _%_}
 use lib.Dec.{leb, ltb}
 use Rattle.types.specs.Base.{word, half, if_then_else_, Outcome, refused, accepted, mapOutcome}

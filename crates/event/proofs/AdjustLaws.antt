@@ -1,12 +1,12 @@
 -- Laws of item 5's definitions: each answer by its condition, and what an accepted answer keeps. Assumes nothing.
-use mathlib.Core.Path.{_≡_, refl, sym, ap, subst, _∙_}
+use mathlib.Core.Path.{_≡_, refl, subst}
 use mathlib.Core.Bool.{Bool, true, false}
-use Prim.Native.Nat.{ℕ, _+_, _-_, _*_, _/_, _^_, _≤_, _<_}
+use Prim.Native.Nat.{ℕ, _+_, _-_, _*_, _/_, _≤_, _<_}
 use native.Mathlib.Nat.{le-refl, le-of-lt, mul-le-mul-left, mul-le-mul-right, div-le-of-le-mul, div-mul-le-self, div-lt-iff-lt-mul, lt-div-mul-add, lt-of-mul-lt-mul-right}
 use native.Mathlib.Omega.{arith}
 use lib.Dec.{leb, ltb}
 use borrow.Author.Tests.{le-leb, lt-leb, lt-ltb, le-ltb, leb-true, leb-false, ltb-true, ltb-false}
-use Rattle.types.specs.Base.{M, word, if_then_else_, Outcome, refused, accepted}
+use Rattle.types.specs.Base.{M, word, refused, accepted}
 use Rattle.types.specs.Refusals.{doesNotFit, claimableOverCustody}
 use Rattle.event.specs.Adjust.{Adjustment, rewardsOf, loweredBy, adjustOf}
 

@@ -1,11 +1,11 @@
 -- Laws of item 3's definitions. Assumes nothing.
-use mathlib.Core.Path.{_≡_, refl, sym, ap, _∙_}
+use mathlib.Core.Path.{_≡_, ap, _∙_}
 use mathlib.Core.Logic.{⊎-elim}
-use Prim.Native.Nat.{ℕ, _+_, _-_, _*_, _/_, _^_, _≤_, _<_, min}
-use native.Mathlib.Nat.{eq-zero-or-pos, mul-zero, zero-div, mul-le-mul-left, mul-div-cancel, div-le-of-le-mul, mul-comm}
+use Prim.Native.Nat.{ℕ, _+_, _-_, _*_, _/_, _≤_, _<_, min}
+use native.Mathlib.Nat.{eq-zero-or-pos, mul-zero, zero-div, mul-le-mul-left, mul-div-cancel, div-le-of-le-mul}
 use native.Mathlib.Omega.{arith}
 use borrow.Author.Tests.{eq-eqb, ne-eqb}
-use Rattle.types.specs.Base.{M, if_then_else_}
+use Rattle.types.specs.Base.{M}
 use Rattle.event.specs.Eligible.{selfEligible, otherEligible, ratioOf, selfRatio, otherRatio}
 
 -- no total, or nothing of it

@@ -1,13 +1,13 @@
 -- Laws of item 7's definitions: each answer by its condition. Assumes nothing.
-use mathlib.Core.Path.{_≡_, refl, sym, ap, subst, _∙_}
+use mathlib.Core.Path.{_≡_, refl, sym, _∙_}
 use mathlib.Core.Logic.{_⊎_, inl, inr}
 use mathlib.Core.Bool.{Bool, true, false}
-use Prim.Native.Nat.{ℕ, _+_, _-_, _*_, _/_, _^_, _≤_, _<_}
+use Prim.Native.Nat.{ℕ, _+_, _-_, _*_, _/_, _≤_, _<_}
 use native.Mathlib.Nat.{zero-mul, zero-div, le-div-iff-mul-le, div-mul-le-self}
 use native.Mathlib.Omega.{arith}
 use lib.Dec.{eqb, leb, ltb}
 use borrow.Author.Tests.{le-leb, lt-leb, lt-ltb, le-ltb, eq-eqb, ne-eqb, leb-true, leb-false, ltb-true, ltb-false, eqb-true, eqb-false}
-use Rattle.types.specs.Base.{M, word, if_then_else_, Outcome, refused, accepted}
+use Rattle.types.specs.Base.{M, word, refused, accepted}
 use Rattle.types.specs.Refusals.{doesNotFit}
 use Rattle.event.specs.declared.reward.Event.{Event}
 use Rattle.event.specs.Reward.{Parts, rateOf, totalOf, shared, rewardOf, eventReward}

@@ -8,7 +8,6 @@ use mathlib.Core.Bool.{Bool, true, false}
 use lib.Dec.{ltb}
 use borrow.Author.Tests.{lt-ltb, le-ltb, ltb-true, ltb-false}
 use Rattle.types.specs.MulDiv.{Division, mulDivOf}
-use Rattle.types.specs.declared.mul_div.MulDiv.{MulDiv}
 use Rattle.types.specs.declared.mul_div.MulDiv.the-variants.{Fits, DoesNotFit}
 
 -- two halves have a product that leaves room for two more halves

@@ -1,7 +1,5 @@
 // A mark for each of up to 1,024 rows.
 ghost use mathlib.Core.Path.{_≡_};
-ghost use Prim.Native.Nat.{_≤_, _<_, _^_};
-ghost use lib.Count.{ones};
 ghost use lib.ListN.{replicate};
 ghost use Rattle.types.specs.BoolArray.{marked, withMark, markedRows, OnesOf};
 
