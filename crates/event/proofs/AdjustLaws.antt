@@ -1,12 +1,13 @@
 -- Laws of item 5's definitions: each answer by its condition, and what an accepted answer keeps. Assumes nothing.
 use mathlib.Core.Path.{_≡_, refl, subst}
+use mathlib.Core.Logic.{_⊎_, inl, inr, ⊎-elim}
 use mathlib.Core.Bool.{Bool, true, false}
 use Prim.Native.Nat.{ℕ, _+_, _-_, _*_, _/_, _≤_, _<_}
 use native.Mathlib.Nat.{le-refl, le-of-lt, mul-le-mul-left, mul-le-mul-right, div-le-of-le-mul, div-mul-le-self, div-lt-iff-lt-mul, lt-div-mul-add, lt-of-mul-lt-mul-right}
 use native.Mathlib.Omega.{arith}
 use lib.Dec.{leb, ltb}
 use borrow.Author.Tests.{le-leb, lt-leb, lt-ltb, le-ltb, leb-true, leb-false, ltb-true, ltb-false}
-use Rattle.types.specs.Base.{M, word, refused, accepted}
+use Rattle.types.specs.Base.{M, word, if_then_else_, Outcome, refused, accepted}
 use Rattle.types.specs.Refusals.{doesNotFit, claimableOverCustody}
 use Rattle.event.specs.Adjust.{Adjustment, rewardsOf, loweredBy, adjustOf}
 
@@ -53,65 +54,40 @@ pub record Kept (y f b : ℕ) (r : Adjustment) : Type 0 where
   pub y-le : r .y ≤ y
   pub covered : f + r .setAside ≤ b
 
-pub adjust-keeps : (T y f b : ℕ) (r : Adjustment) → adjustOf T y f b ≡ accepted r → Kept y f b r
-unfolding loweredBy
-adjust-keeps T y f b r e = go (leb word (rewardsOf T y + f)) refl (leb (rewardsOf T y + f) b) refl (ltb b f) refl
-  where
-    never : (n : ℕ) → adjustOf T y f b ≡ refused n → Kept y f b r
-    never n q = let z : _≡_ {A = ℕ} 0 1 = cc in absurd (omega arith)
+-- what an answer tells
+abbrev Tells : (T y f b : ℕ) → Outcome Adjustment → Type 0
+Tells T y f b (refused k) =
+    ((k ≡ doesNotFit) × (word ≤ rewardsOf T y + f)) ⊎ ((k ≡ claimableOverCustody) × ((rewardsOf T y + f < word) × (b < f)))
+Tells T y f b (accepted r) = Kept y f b r
 
-    is : (x : Adjustment) → adjustOf T y f b ≡ accepted x → Kept y f b x → Kept y f b r
-    is x q k = let p : x ≡ r = cc in subst (Kept y f b) p k
-
-    go : (t₁ : Bool) → leb word (rewardsOf T y + f) ≡ t₁ → (t₂ : Bool) → leb (rewardsOf T y + f) b ≡ t₂ → (t₃ : Bool) → ltb b f ≡ t₃ → Kept y f b r
-    go true h₁ t₂ h₂ t₃ h₃ = never 13 (adjust-13 T y f b (leb-true word (rewardsOf T y + f) h₁))
-    go false h₁ true h₂ t₃ h₃ =
-        is (record { y = y; setAside = rewardsOf T y }) (adjust-kept T y f b (leb-false word (rewardsOf T y + f) h₁) (leb-true (rewardsOf T y + f) b h₂))
-        (record { y-le = le-refl y; covered = omega (arith, leb-true (rewardsOf T y + f) b h₂) })
-    go false h₁ false h₂ true h₃ = never 14 (adjust-14 T y f b (leb-false word (rewardsOf T y + f) h₁) (leb-false (rewardsOf T y + f) b h₂) (ltb-true b f h₃))
-    go false h₁ false h₂ false h₃ =
-        let k : b < rewardsOf T y + f = leb-false (rewardsOf T y + f) b h₂ in
-        let l : f ≤ b = ltb-false b f h₃ in
-        is (loweredBy T y (b - f) (rewardsOf T y)) (adjust-lowered T y f b (leb-false word (rewardsOf T y + f) h₁) k l)
-        (record { y-le = lowered-y-le y (b - f) (rewardsOf T y) (omega arith); covered = omega (arith, lowered-aside-le T y (b - f) (rewardsOf T y) refl (omega arith)) })
-
--- and each refusal only by its condition
 module _ (T y f b : ℕ) where
-  abbrev cases : (Only : Type 0) → Type 0
-  cases Only = (t₁ : Bool) → leb word (rewardsOf T y + f) ≡ t₁ → (t₂ : Bool) → leb (rewardsOf T y + f) b ≡ t₂ → (t₃ : Bool) → ltb b f ≡ t₃ → Only
-
-  pub adjust-13-only : adjustOf T y f b ≡ refused doesNotFit → word ≤ rewardsOf T y + f
-  adjust-13-only e = go (leb word (rewardsOf T y + f)) refl (leb (rewardsOf T y + f) b) refl (ltb b f) refl
+  adjust-tells : Tells T y f b (adjustOf T y f b)
+  unfolding adjustOf loweredBy
+  adjust-tells = go (leb word (rewardsOf T y + f)) refl (leb (rewardsOf T y + f) b) refl (ltb b f) refl
     where
-      go : cases (word ≤ rewardsOf T y + f)
-      go true h₁ t₂ h₂ t₃ h₃ = leb-true word (rewardsOf T y + f) h₁
-      go false h₁ true h₂ t₃ h₃ =
-          let q = adjust-kept T y f b (leb-false word (rewardsOf T y + f) h₁) (leb-true (rewardsOf T y + f) b h₂) in
-          let z : _≡_ {A = ℕ} 0 1 = cc in
-          absurd (omega arith)
-      go false h₁ false h₂ true h₃ =
-          let q = adjust-14 T y f b (leb-false word (rewardsOf T y + f) h₁) (leb-false (rewardsOf T y + f) b h₂) (ltb-true b f h₃) in
-          let z : _≡_ {A = ℕ} 13 14 = cc in
-          absurd (omega arith)
+      go : (t₁ : Bool) → leb word (rewardsOf T y + f) ≡ t₁ → (t₂ : Bool) → leb (rewardsOf T y + f) b ≡ t₂ → (t₃ : Bool) → ltb b f ≡ t₃
+          → Tells T y f b (
+          if t₁ then refused doesNotFit
+          else if t₂ then accepted (record { y = y; setAside = rewardsOf T y })
+          else if t₃ then refused claimableOverCustody
+          else accepted (loweredBy T y (b - f) (rewardsOf T y)))
+      go true h₁ t₂ h₂ t₃ h₃ = inl (refl, leb-true word (rewardsOf T y + f) h₁)
+      go false h₁ true h₂ t₃ h₃ = record { y-le = le-refl y; covered = omega (arith, leb-true (rewardsOf T y + f) b h₂) }
+      go false h₁ false h₂ true h₃ = inr (refl, (leb-false word (rewardsOf T y + f) h₁, ltb-true b f h₃))
       go false h₁ false h₂ false h₃ =
-          let q = adjust-lowered T y f b (leb-false word (rewardsOf T y + f) h₁) (leb-false (rewardsOf T y + f) b h₂) (ltb-false b f h₃) in
-          let z : _≡_ {A = ℕ} 0 1 = cc in
-          absurd (omega arith)
+          let k : b < rewardsOf T y + f = leb-false (rewardsOf T y + f) b h₂ in
+          let l : f ≤ b = ltb-false b f h₃ in
+          record {
+            y-le = lowered-y-le y (b - f) (rewardsOf T y) (omega arith);
+            covered = omega (arith, lowered-aside-le T y (b - f) (rewardsOf T y) refl (omega arith));
+          }
+
+  pub adjust-keeps : (r : Adjustment) → adjustOf T y f b ≡ accepted r → Kept y f b r
+  adjust-keeps r e = subst (Tells T y f b) e adjust-tells
+
+  -- each refusal only by its condition
+  pub adjust-13-only : adjustOf T y f b ≡ refused doesNotFit → word ≤ rewardsOf T y + f
+  adjust-13-only e = ⊎-elim (λ h. h .1) (λ h. absurd (omega arith)) (subst (Tells T y f b) e adjust-tells)
 
   pub adjust-14-only : adjustOf T y f b ≡ refused claimableOverCustody → (rewardsOf T y + f < word) × (b < f)
-  adjust-14-only e = go (leb word (rewardsOf T y + f)) refl (leb (rewardsOf T y + f) b) refl (ltb b f) refl
-    where
-      go : cases ((rewardsOf T y + f < word) × (b < f))
-      go true h₁ t₂ h₂ t₃ h₃ =
-          let q = adjust-13 T y f b (leb-true word (rewardsOf T y + f) h₁) in
-          let z : _≡_ {A = ℕ} 13 14 = cc in
-          absurd (omega arith)
-      go false h₁ true h₂ t₃ h₃ =
-          let q = adjust-kept T y f b (leb-false word (rewardsOf T y + f) h₁) (leb-true (rewardsOf T y + f) b h₂) in
-          let z : _≡_ {A = ℕ} 0 1 = cc in
-          absurd (omega arith)
-      go false h₁ false h₂ true h₃ = (leb-false word (rewardsOf T y + f) h₁, ltb-true b f h₃)
-      go false h₁ false h₂ false h₃ =
-          let q = adjust-lowered T y f b (leb-false word (rewardsOf T y + f) h₁) (leb-false (rewardsOf T y + f) b h₂) (ltb-false b f h₃) in
-          let z : _≡_ {A = ℕ} 0 1 = cc in
-          absurd (omega arith)
+  adjust-14-only e = ⊎-elim (λ h. absurd (omega arith)) (λ h. h .1) (subst (Tells T y f b) e adjust-tells)

@@ -1,13 +1,13 @@
--- Laws of item 7's definitions: each answer by its condition. Assumes nothing.
-use mathlib.Core.Path.{_≡_, refl, sym, _∙_}
+-- Laws of item 7's definitions: each answer by its condition, and what each answer tells. Assumes nothing.
+use mathlib.Core.Path.{_≡_, refl, sym, subst}
 use mathlib.Core.Logic.{_⊎_, inl, inr}
 use mathlib.Core.Bool.{Bool, true, false}
 use Prim.Native.Nat.{ℕ, _+_, _-_, _*_, _/_, _≤_, _<_}
-use native.Mathlib.Nat.{zero-mul, zero-div, le-div-iff-mul-le, div-mul-le-self}
+use native.Mathlib.Nat.{add-zero, zero-mul, zero-div, le-div-iff-mul-le, div-mul-le-self}
 use native.Mathlib.Omega.{arith}
 use lib.Dec.{eqb, leb, ltb}
 use borrow.Author.Tests.{le-leb, lt-leb, lt-ltb, le-ltb, eq-eqb, ne-eqb, leb-true, leb-false, ltb-true, ltb-false, eqb-true, eqb-false}
-use Rattle.types.specs.Base.{M, word, refused, accepted}
+use Rattle.types.specs.Base.{M, word, if_then_else_, Outcome, refused, accepted}
 use Rattle.types.specs.Refusals.{doesNotFit}
 use Rattle.event.specs.declared.reward.Event.{Event}
 use Rattle.event.specs.Reward.{Parts, rateOf, totalOf, shared, rewardOf, eventReward}
@@ -53,100 +53,72 @@ pub other-side : (e : Event) (amount : ℕ)
 unfolding eventReward
 other-side e amount = refl
 
--- ---- the parts add up to the total
+-- ---- what an answer tells: the parts add up to the total, and 13 has one of its conditions
 
-pub shared-adds : (total fee : ℕ) (selfSide : Bool) (p : Parts) → shared total fee selfSide ≡ accepted p → p .delegator + p .publisher ≡ total
-shared-adds total fee true p e =
-    let q = shared-self total fee in
-    let d : p .delegator ≡ total = cc in
-    let u : p .publisher ≡ 0 = cc in
-    omega arith
-shared-adds total fee false p e = go (ltb total (total * fee / M)) refl
+abbrev Shares : (total fee : ℕ) (selfSide : Bool) → Outcome Parts → Type 0
+Shares total fee selfSide (refused k) = (k ≡ doesNotFit) × ((selfSide ≡ false) × (total < total * fee / M))
+Shares total fee selfSide (accepted p) = p .delegator + p .publisher ≡ total
+
+shared-tells : (total fee : ℕ) (selfSide : Bool) → Shares total fee selfSide (shared total fee selfSide)
+unfolding shared
+shared-tells total fee true = add-zero total
+shared-tells total fee false = go (ltb total (total * fee / M)) refl
   where
-    go : (t : Bool) → ltb total (total * fee / M) ≡ t → p .delegator + p .publisher ≡ total
-    go true h =
-        let q = shared-13 total fee (ltb-true total (total * fee / M) h) in
-        let z : _≡_ {A = ℕ} 0 1 = cc in
-        absurd (omega arith)
-    go false h =
-        let l = ltb-false total (total * fee / M) h in
-        let q = shared-parts total fee l in
-        let d : p .delegator ≡ total - total * fee / M = cc in
-        let u : p .publisher ≡ total * fee / M = cc in
-        omega arith
+    go : (t : Bool) → ltb total (total * fee / M) ≡ t
+        → Shares total fee false (if t then refused doesNotFit else accepted (record { delegator = total - total * fee / M; publisher = total * fee / M }))
+    go true h = (refl, (refl, ltb-true total (total * fee / M) h))
+    go false h = let l = ltb-false total (total * fee / M) h in omega arith
+
+-- a rate past a word, a total past a word, or a publisher's part above the total
+abbrev pub Unfit : (a y ratio fee : ℕ) (selfSide : Bool) → Type 0
+Unfit a y ratio fee selfSide =
+    (word ≤ rateOf y ratio)
+    ⊎ ((word ≤ totalOf a (rateOf y ratio))
+    ⊎ ((selfSide ≡ false) × (totalOf a (rateOf y ratio) < totalOf a (rateOf y ratio) * fee / M)))
 
 -- amount 0 earns nothing
-pub total-none : (rate : ℕ) → totalOf 0 rate ≡ 0
+pub total-none : (a rate : ℕ) → a ≡ 0 → totalOf a rate ≡ 0
 unfolding totalOf
-total-none rate = rw (zero-mul rate, zero-div M)
+total-none a rate z = rw (z, zero-mul rate, zero-div M)
 
-pub reward-adds : (a y ratio fee : ℕ) (selfSide : Bool) (p : Parts) → rewardOf a y ratio fee selfSide ≡ accepted p
-    → p .delegator + p .publisher ≡ totalOf a (rateOf y ratio)
-reward-adds a y ratio fee selfSide p e = go (eqb a 0) refl (leb word (rateOf y ratio)) refl (leb word (totalOf a (rateOf y ratio))) refl
-  where
-    go : (t₁ : Bool) → eqb a 0 ≡ t₁ → (t₂ : Bool) → leb word (rateOf y ratio) ≡ t₂ → (t₃ : Bool) → leb word (totalOf a (rateOf y ratio)) ≡ t₃
-        → p .delegator + p .publisher ≡ totalOf a (rateOf y ratio)
-    go true h₁ t₂ h₂ t₃ h₃ =
-        let z = eqb-true a 0 h₁ in
-        let q = reward-none a y ratio fee selfSide z in
-        let d : p .delegator ≡ 0 = cc in
-        let u : p .publisher ≡ 0 = cc in
-        rw (d, u, z, total-none (rateOf y ratio))
-    go false h₁ true h₂ t₃ h₃ =
-        let q = reward-rate-13 a y ratio fee selfSide (eqb-false a 0 h₁) (leb-true word (rateOf y ratio) h₂) in
-        let z : _≡_ {A = ℕ} 0 1 = cc in
-        absurd (omega arith)
-    go false h₁ false h₂ true h₃ =
-        let q = reward-total-13 a y ratio fee selfSide (eqb-false a 0 h₁) (leb-false word (rateOf y ratio) h₂) (leb-true word (totalOf a (rateOf y ratio)) h₃) in
-        let z : _≡_ {A = ℕ} 0 1 = cc in
-        absurd (omega arith)
-    go false h₁ false h₂ false h₃ =
-        let q = reward-shared a y ratio fee selfSide (eqb-false a 0 h₁) (leb-false word (rateOf y ratio) h₂) (leb-false word (totalOf a (rateOf y ratio)) h₃) in
-        shared-adds (totalOf a (rateOf y ratio)) fee selfSide p (sym q ∙ e)
+abbrev Tells : (a y ratio fee : ℕ) (selfSide : Bool) → Outcome Parts → Type 0
+Tells a y ratio fee selfSide (refused k) = (k ≡ doesNotFit) × ((a ≡ 0 → ⊥) × Unfit a y ratio fee selfSide)
+Tells a y ratio fee selfSide (accepted p) = p .delegator + p .publisher ≡ totalOf a (rateOf y ratio)
+
+module _ (a y ratio fee : ℕ) (selfSide : Bool) where
+  -- from the total's shares to the reward
+  from-shares : (a ≡ 0 → ⊥) → (o : Outcome Parts) → Shares (totalOf a (rateOf y ratio)) fee selfSide o → Tells a y ratio fee selfSide o
+  from-shares n (refused k) s = (s .0, (n, inr (inr (s .1))))
+  from-shares n (accepted p) s = s
+
+  reward-tells : Tells a y ratio fee selfSide (rewardOf a y ratio fee selfSide)
+  unfolding rewardOf
+  reward-tells = go (eqb a 0) refl (leb word (rateOf y ratio)) refl (leb word (totalOf a (rateOf y ratio))) refl
+    where
+      go : (t₁ : Bool) → eqb a 0 ≡ t₁ → (t₂ : Bool) → leb word (rateOf y ratio) ≡ t₂ → (t₃ : Bool) → leb word (totalOf a (rateOf y ratio)) ≡ t₃
+          → Tells a y ratio fee selfSide (
+          if t₁ then accepted (record { delegator = 0; publisher = 0 })
+          else if t₂ then refused doesNotFit
+          else if t₃ then refused doesNotFit
+          else shared (totalOf a (rateOf y ratio)) fee selfSide)
+      go true h₁ t₂ h₂ t₃ h₃ = sym (total-none a (rateOf y ratio) (eqb-true a 0 h₁))
+      go false h₁ true h₂ t₃ h₃ = (refl, (eqb-false a 0 h₁, inl (leb-true word (rateOf y ratio) h₂)))
+      go false h₁ false h₂ true h₃ = (refl, (eqb-false a 0 h₁, inr (inl (leb-true word (totalOf a (rateOf y ratio)) h₃))))
+      go false h₁ false h₂ false h₃ =
+          from-shares (eqb-false a 0 h₁) (shared (totalOf a (rateOf y ratio)) fee selfSide) (shared-tells (totalOf a (rateOf y ratio)) fee selfSide)
+
+  -- the parts add up to the total
+  pub reward-adds : (p : Parts) → rewardOf a y ratio fee selfSide ≡ accepted p → p .delegator + p .publisher ≡ totalOf a (rateOf y ratio)
+  reward-adds p e = subst (Tells a y ratio fee selfSide) e reward-tells
+
+  -- 13 only by one of its conditions
+  pub reward-13-only : rewardOf a y ratio fee selfSide ≡ refused doesNotFit → (a ≡ 0 → ⊥) × Unfit a y ratio fee selfSide
+  reward-13-only e = subst (Tells a y ratio fee selfSide) e reward-tells .1
 
 -- ---- what amounts earn apart is at most what they earn together
 
 pub total-split : (a b rate : ℕ) → totalOf a rate + totalOf b rate ≤ totalOf (a + b) rate
 unfolding totalOf
-total-split a b rate = le-div-iff-mul-le {k = M} {x = a * rate / M + b * rate / M} {y = (a + b) * rate} (omega arith) .1
+total-split a b rate =
+    le-div-iff-mul-le {k = M} {x = a * rate / M + b * rate / M} {y = (a + b) * rate} (omega arith) .1
     (omega (arith, div-mul-le-self (a * rate) M, div-mul-le-self (b * rate) M))
-
--- ---- 13 only by one of its conditions
-
-pub shared-13-only : (total fee : ℕ) (selfSide : Bool) → shared total fee selfSide ≡ refused doesNotFit
-    → (selfSide ≡ false) × (total < total * fee / M)
-shared-13-only total fee true e =
-    let q = shared-self total fee in
-    let z : _≡_ {A = ℕ} 0 1 = cc in
-    absurd (omega arith)
-shared-13-only total fee false e = go (ltb total (total * fee / M)) refl
-  where
-    go : (t : Bool) → ltb total (total * fee / M) ≡ t → (false ≡ false) × (total < total * fee / M)
-    go true h = (refl, ltb-true total (total * fee / M) h)
-    go false h =
-        let q = shared-parts total fee (ltb-false total (total * fee / M) h) in
-        let z : _≡_ {A = ℕ} 0 1 = cc in
-        absurd (omega arith)
-
-module _ (a y ratio fee : ℕ) (selfSide : Bool) where
-  -- a rate past a word, a total past a word, or a publisher's part above the total
-  abbrev pub Unfit : Type 0
-  Unfit =
-      (word ≤ rateOf y ratio)
-      ⊎ ((word ≤ totalOf a (rateOf y ratio))
-      ⊎ ((selfSide ≡ false) × (totalOf a (rateOf y ratio) < totalOf a (rateOf y ratio) * fee / M)))
-
-  pub reward-13-only : rewardOf a y ratio fee selfSide ≡ refused doesNotFit → (a ≡ 0 → ⊥) × Unfit
-  reward-13-only e = go (eqb a 0) refl (leb word (rateOf y ratio)) refl (leb word (totalOf a (rateOf y ratio))) refl
-    where
-      go : (t₁ : Bool) → eqb a 0 ≡ t₁ → (t₂ : Bool) → leb word (rateOf y ratio) ≡ t₂ → (t₃ : Bool) → leb word (totalOf a (rateOf y ratio)) ≡ t₃
-          → (a ≡ 0 → ⊥) × Unfit
-      go true h₁ t₂ h₂ t₃ h₃ =
-          let q = reward-none a y ratio fee selfSide (eqb-true a 0 h₁) in
-          let z : _≡_ {A = ℕ} 0 1 = cc in
-          absurd (omega arith)
-      go false h₁ true h₂ t₃ h₃ = (eqb-false a 0 h₁, inl (leb-true word (rateOf y ratio) h₂))
-      go false h₁ false h₂ true h₃ = (eqb-false a 0 h₁, inr (inl (leb-true word (totalOf a (rateOf y ratio)) h₃)))
-      go false h₁ false h₂ false h₃ =
-          let q = reward-shared a y ratio fee selfSide (eqb-false a 0 h₁) (leb-false word (rateOf y ratio) h₂) (leb-false word (totalOf a (rateOf y ratio)) h₃) in
-          (eqb-false a 0 h₁, inr (inr (shared-13-only (totalOf a (rateOf y ratio)) fee selfSide (sym q ∙ e))))
