@@ -5,7 +5,7 @@ use Prim.Native.Nat.{ℕ}
 use Rattle.types.specs.Base.{Outcome, accepted, mapOutcome}
 use Rattle.event.specs.Eligible.{selfEligible, otherEligible, ratioOf, selfRatio, otherRatio}
 use Rattle.event.specs.Adjust.{rewardsOf, loweredBy, adjustOf}
-use Rattle.event.specs.Reward.{rateOf, totalOf, shared, rewardOf}
+use Rattle.event.specs.Event.{rateOf, totalOf, shared, rewardOf}
 
 -- eligible amounts and ratios of both sides
 abbrev eligibleRow : (cap selfTotal otherTotal : ℕ) → ℕ × ℕ × ℕ × ℕ

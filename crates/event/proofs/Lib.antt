@@ -1,4 +1,4 @@
 pub mod EligibleLaws
 pub mod AdjustLaws
-pub mod RewardLaws
+pub mod EventLaws
 pub mod Examples

@@ -1,3 +1,3 @@
 pub mod Eligible
 pub mod Adjust
-pub mod Reward
+pub mod Event

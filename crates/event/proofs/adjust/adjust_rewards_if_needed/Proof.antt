@@ -1,4 +1,4 @@
--- `adjust::adjust_rewards_if_needed` meets its contract. Assumes nothing.
+-- `event::adjust::adjust_rewards_if_needed` meets its contract. Assumes nothing.
 use mathlib.Core.Path.{_≡_, sym, _∙_}
 use Prim.Native.Nat.{_+_, _-_, _<_}
 use native.Mathlib.Omega.{arith}

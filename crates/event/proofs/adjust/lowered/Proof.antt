@@ -1,4 +1,4 @@
--- `adjust::lowered` meets its contract: neither product over its divisor is past a word. Assumes nothing.
+-- `event::adjust::lowered` meets its contract: neither product over its divisor is past a word. Assumes nothing.
 use mathlib.Core.Path.{sym, _∙_}
 use Prim.Native.Nat.{ℕ, _*_, _^_, _<_, _≤_}
 use native.Mathlib.Nat.{le-of-lt, mul-le-mul-left, mul-lt-mul-of-pos-right, div-lt-iff-lt-mul}

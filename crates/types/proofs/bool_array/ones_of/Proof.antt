@@ -1,4 +1,4 @@
--- `bool_array::ones_of` meets its contract. Assumes nothing.
+-- `types::bool_array::ones_of` meets its contract. Assumes nothing.
 use mathlib.Core.Path.{refl}
 use native.Mathlib.Omega.{arith}
 use lib.Count.{ones-le}

@@ -1,4 +1,4 @@
--- `mul_div::digit_long` meets its contract. Assumes nothing.
+-- `types::mul_div::digit_long` meets its contract. Assumes nothing.
 use mathlib.Core.Path.{_≡_}
 use Prim.Native.Nat.{ℕ, _+_, _-_, _*_, _/_, _%_, _^_, _≤_, _<_}
 use native.Mathlib.Nat.{div-add-mod', mod-lt, div-lt-iff-lt-mul, mul-le-mul}

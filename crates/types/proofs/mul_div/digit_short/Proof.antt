@@ -1,4 +1,4 @@
--- `mul_div::digit_short` meets its contract. Assumes nothing.
+-- `types::mul_div::digit_short` meets its contract. Assumes nothing.
 use native.Mathlib.Nat.{div-add-mod', mod-lt}
 use native.Mathlib.Omega.{arith}
 use borrow.Author.Needs.{needs}

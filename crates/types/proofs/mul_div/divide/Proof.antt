@@ -1,4 +1,4 @@
--- `mul_div::divide` meets its contract: two digits of long division. Assumes nothing.
+-- `types::mul_div::divide` meets its contract: two digits of long division. Assumes nothing.
 use Prim.Native.Nat.{ℕ, _+_, _*_, _/_, _%_, _^_, _<_}
 use native.Mathlib.Omega.{arith}
 use borrow.Author.Needs.{needs}

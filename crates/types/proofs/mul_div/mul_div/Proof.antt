@@ -1,4 +1,4 @@
--- `mul_div::mul_div` meets its contract. Assumes nothing.
+-- `types::mul_div::mul_div` meets its contract. Assumes nothing.
 use native.Mathlib.Omega.{arith}
 use borrow.Author.Needs.{needs}
 use Rattle.types.proofs.MulDivLaws.{half-product, short-at}

@@ -1,4 +1,4 @@
--- `mul_div::mul_div_wide` meets its contract. Assumes nothing.
+-- `types::mul_div::mul_div_wide` meets its contract. Assumes nothing.
 use Prim.Native.Nat.{ℕ, _*_, _^_, _<_}
 use native.Mathlib.Omega.{arith}
 use borrow.Author.Needs.{needs}

@@ -1,4 +1,4 @@
--- `wide::product` meets its contract. Assumes nothing.
+-- `types::wide::product` meets its contract. Assumes nothing.
 use Prim.Native.Nat.{ℕ, _/_, _%_, _^_, _<_, _*_, _-_, _≤_}
 use native.Mathlib.Omega.{arith}
 use Rattle.types.proofs.MulDivLaws.{half-product, by-halves}

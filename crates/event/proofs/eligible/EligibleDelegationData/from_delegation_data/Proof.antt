@@ -1,4 +1,4 @@
--- `eligible::EligibleDelegationData::from_delegation_data` meets its contract. Assumes nothing.
+-- `event::eligible::EligibleDelegationData::from_delegation_data` meets its contract. Assumes nothing.
 use borrow.Author.Needs.{needs}
 use Rattle.event.specs.Eligible.{selfEligible, otherEligible, eligibleOf}
 use Rattle.event.proofs.eligible.EligibleDelegationData.from_delegation_data.Statement.{statement}

@@ -1,6 +1,6 @@
 // Item 7: the reward of one event.
 ghost use mathlib.Core.Path.{_≡_};
-ghost use Rattle.event.specs.Reward.{rewardOf, eventReward, shared, rewardIs};
+ghost use Rattle.event.specs.Event.{rewardOf, eventReward, shared, rewardIs};
 use types::Amount;
 use types::FRAC_64_MULTIPLIER;
 use types::Ratio;

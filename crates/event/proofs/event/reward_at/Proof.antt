@@ -1,14 +1,14 @@
--- `event::reward_at` meets its contract. Assumes nothing.
+-- `event::event::reward_at` meets its contract. Assumes nothing.
 use mathlib.Core.Path.{_≡_, sym, _∙_}
 use Prim.Native.Nat.{_<_}
 use native.Mathlib.Omega.{arith}
 use borrow.Author.Needs.{needs}
 use Rattle.types.specs.Base.{M, word}
 use Rattle.types.proofs.MulDivLaws.{Floor, fits-says, past-floor, floor-lt}
-use Rattle.event.specs.Reward.{rateOf, totalOf}
-use Rattle.event.proofs.RewardLaws.{reward-none, reward-rate-13, reward-total-13, reward-shared}
-use Rattle.event.proofs.reward.reward_at.Statement.{statement}
-use Rattle.event.proofs.reward.reward_at.Tie as tie
+use Rattle.event.specs.Event.{rateOf, totalOf}
+use Rattle.event.proofs.EventLaws.{reward-none, reward-rate-13, reward-total-13, reward-shared}
+use Rattle.event.proofs.event.reward_at.Statement.{statement}
+use Rattle.event.proofs.event.reward_at.Tie as tie
 
 returns : tie.Need-returns
 returns c =

@@ -1,9 +1,9 @@
--- `event::reward::Event::calculate_reward` meets its contract. Assumes nothing.
+-- `event::event::Event::calculate_reward` meets its contract. Assumes nothing.
 use mathlib.Core.Path.{sym, _∙_}
-use Rattle.event.proofs.RewardLaws.{self-side, other-side}
+use Rattle.event.proofs.EventLaws.{self-side, other-side}
 use borrow.Author.Needs.{needs}
-use Rattle.event.proofs.reward.Event.calculate_reward.Statement.{statement}
-use Rattle.event.proofs.reward.Event.calculate_reward.Tie as tie
+use Rattle.event.proofs.event.Event.calculate_reward.Statement.{statement}
+use Rattle.event.proofs.event.Event.calculate_reward.Tie as tie
 
 reward-at-requires : tie.Need-reward-at-requires
 reward-at-requires c κs = search needs

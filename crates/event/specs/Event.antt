@@ -4,9 +4,9 @@ use Prim.Native.Nat.{ℕ, _-_, _*_, _/_}
 use lib.Dec.{eqb, leb, ltb}
 use Rattle.types.specs.Base.{M, word, if_then_else_, Outcome, refused, accepted}
 use Rattle.types.specs.Refusals.{doesNotFit}
-use Rattle.event.specs.declared.reward.Event.{Event}
-use Rattle.event.specs.declared.reward.Reward.{Reward}
-use Rattle.event.specs.declared.reward.Reward.the-variants.{Paid, DoesNotFit}
+use Rattle.event.specs.declared.event.Event.{Event}
+use Rattle.event.specs.declared.event.Reward.{Reward}
+use Rattle.event.specs.declared.event.Reward.the-variants.{Paid, DoesNotFit}
 
 -- the delegator's part and the publisher's part (document 01's terms)
 pub record Parts : Type 0 where

@@ -9,8 +9,8 @@ use lib.Dec.{eqb, leb, ltb}
 use borrow.Author.Tests.{le-leb, lt-leb, lt-ltb, le-ltb, eq-eqb, ne-eqb, leb-true, leb-false, ltb-true, ltb-false, eqb-true, eqb-false}
 use Rattle.types.specs.Base.{M, word, if_then_else_, Outcome, refused, accepted}
 use Rattle.types.specs.Refusals.{doesNotFit}
-use Rattle.event.specs.declared.reward.Event.{Event}
-use Rattle.event.specs.Reward.{Parts, rateOf, totalOf, shared, rewardOf, eventReward}
+use Rattle.event.specs.declared.event.Event.{Event}
+use Rattle.event.specs.Event.{Parts, rateOf, totalOf, shared, rewardOf, eventReward}
 
 module _ (a y ratio fee : ℕ) (selfSide : Bool) where
   pub reward-none : a ≡ 0 → rewardOf a y ratio fee selfSide ≡ accepted (record { delegator = 0; publisher = 0 })

@@ -1,4 +1,4 @@
--- `event::share_out` meets its contract. Assumes nothing.
+-- `event::event::share_out` meets its contract. Assumes nothing.
 use mathlib.Core.Path.{_≡_, sym, _∙_}
 use mathlib.Core.Bool.{false}
 use Prim.Native.Nat.{_-_, _*_, _/_}
@@ -6,9 +6,9 @@ use native.Mathlib.Omega.{arith}
 use borrow.Author.Needs.{needs}
 use Rattle.types.specs.Base.{M}
 use Rattle.types.proofs.MulDivLaws.{fits-says, past-floor}
-use Rattle.event.proofs.RewardLaws.{shared-self, shared-13, shared-parts}
-use Rattle.event.proofs.reward.share_out.Statement.{statement}
-use Rattle.event.proofs.reward.share_out.Tie as tie
+use Rattle.event.proofs.EventLaws.{shared-self, shared-13, shared-parts}
+use Rattle.event.proofs.event.share_out.Statement.{statement}
+use Rattle.event.proofs.event.share_out.Tie as tie
 
 returns : tie.Need-returns
 returns c = rw (c .if1 .taken) (sym (shared-self (c .before .args .total) (c .before .args .fee)))
