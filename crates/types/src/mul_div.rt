@@ -7,9 +7,9 @@ use crate::wide::product;
 const HALF: u64 = 0x1_0000_0000;
 
 // A quotient with its remainder.
-pub struct Divided {
-    pub quotient: u64,
-    pub remainder: u64,
+struct Divided {
+    quotient: u64,
+    remainder: u64,
 }
 
 // The answer of mul_div: the floor with the remainder, or that the floor is past 64 bits.
@@ -88,7 +88,7 @@ fn digit(h: u64, x: u64, d: u64) -> Divided
 }
 
 // hi * 2^64 + lo over d, where the quotient is one word.
-pub fn divide(hi: u64, lo: u64, d: u64) -> Divided
+fn divide(hi: u64, lo: u64, d: u64) -> Divided
     requires { ⌜ hi < d ⌝ }
     ensures { λ r. ⌜ Division (hi * 2 ^ 64 + lo) d (r .quotient) (r .remainder) ⌝ }
 {
