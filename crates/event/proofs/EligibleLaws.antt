@@ -8,7 +8,7 @@ use borrow.Author.Tests.{eq-eqb, ne-eqb}
 use Rattle.types.specs.Base.{M}
 use Rattle.event.specs.Eligible.{selfEligible, otherEligible, ratioOf, selfRatio, otherRatio}
 
--- no total, or nothing of it
+-- no total
 pub ratio-empty : (p t : ℕ) → t ≡ 0 → ratioOf p t ≡ 0
 unfolding ratioOf
 ratio-empty p t z = rw (eq-eqb t 0 z)
@@ -17,6 +17,7 @@ pub ratio-some : (p t : ℕ) → 0 < t → ratioOf p t ≡ M * p / t
 unfolding ratioOf
 ratio-some p t h = rw (ne-eqb t 0 (λ z. omega arith))
 
+-- nothing of a total
 pub ratio-none : (p t : ℕ) → p ≡ 0 → ratioOf p t ≡ 0
 ratio-none p t z = ⊎-elim (ratio-empty p t) (λ h. ratio-some p t h ∙ rw (z, mul-zero M) (zero-div t)) (eq-zero-or-pos t)
 

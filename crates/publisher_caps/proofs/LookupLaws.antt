@@ -16,6 +16,9 @@ use Rattle.publisher_caps.specs.Message.{rowsOf, keyAt, capAt, Whole}
 use Rattle.publisher_caps.specs.Lookup.{lookup, foundOf, RowIn, capIn, capOf}
 use Rattle.publisher_caps.proofs.KeyLaws.{bytes-below}
 
+suc-add : (a b : ℕ) → suc a + b ≡ suc (a + b)
+suc-add a b = omega arith
+
 -- ---- rows without the key
 
 module _ (m : List ℕ) (key : ℕ) where
@@ -37,9 +40,6 @@ module _ (m : List ℕ) (key : ℕ) where
       rw (suc-add n rows, ne-eqb (keyAt m from) key (w from (omega arith) (omega arith)))
       (ap (λ (a : ℕ). lookup m key a rows) (along from n) ∙ skip n (from + 1) rows (λ i a b. w i (omega arith) (omega arith)))
     where
-      suc-add : (a b : ℕ) → suc a + b ≡ suc (a + b)
-      suc-add a b = omega arith
-
       along : (a b : ℕ) → a + suc b ≡ a + 1 + b
       along a b = omega arith
 
@@ -49,9 +49,6 @@ module _ (m : List ℕ) (key : ℕ) where
   cut zero from rows w = sym (rw (zero-add rows) (lookup-without from rows (λ i a b. w i (omega arith) (omega arith))))
   cut (suc n) from rows w = rw (suc-add n rows) (go (eqb (keyAt m from) key) (cut n (from + 1) rows (λ i a b. w i (omega arith) (omega arith))))
     where
-      suc-add : (a b : ℕ) → suc a + b ≡ suc (a + b)
-      suc-add a b = omega arith
-
       go : (t : Bool) → lookup m key (from + 1) n ≡ lookup m key (from + 1) (n + rows)
           → (if t then At from else lookup m key (from + 1) n) ≡ (if t then At from else lookup m key (from + 1) (n + rows))
       go true e = refl

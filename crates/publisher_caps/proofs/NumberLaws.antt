@@ -1,18 +1,17 @@
 -- Laws of keys and their numbers: keys of the image with the same number are the same, word by word. Assumes nothing.
 use mathlib.Core.Path.{_≡_, refl, sym, ap, _∙_}
-use mathlib.Core.Bool.{Bool, true, false, _&&_}
+use mathlib.Core.Bool.{Bool, true, false}
 use Prim.Native.Nat.{ℕ, _+_, _*_, _/_, _%_, _^_, _<_}
 use native.Mathlib.Nat.{mod-lt, mod-eq-of-lt}
 use native.Mathlib.Omega.{arith}
 use lib.Dec.{eqb}
 use borrow.Author.Tests.{eq-eqb, ne-eqb, eqb-true}
 use Rattle.types.specs.Base.{word}
-use Rattle.types.proofs.Below.{and-both}
 use Rattle.positions.specs.declared.Key.{Key}
 use Rattle.positions.specs.Key.{sameKey}
-use Rattle.positions.proofs.KeyLaws.{same-last}
+use Rattle.positions.proofs.KeyLaws.{same-last, same-says}
 use Rattle.publisher_caps.specs.Key.{swapped, pair, number, numberOf}
-use Rattle.publisher_caps.proofs.KeyLaws.{turned, swap-sum, number-same}
+use Rattle.publisher_caps.proofs.KeyLaws.{turned, swap-sum}
 
 -- the words of a key are words
 abbrev pub KeyFits : Key → Type 0
@@ -89,7 +88,6 @@ module _ (a b : Key) (fa : KeyFits a) (fb : KeyFits b) where
 
   -- so keys are the same just if their numbers are
   pub same-number : sameKey a b ≡ eqb (numberOf a) (numberOf b)
-  unfolding sameKey
   same-number = go (eqb (numberOf a) (numberOf b)) refl
     where
       go : (t : Bool) → eqb (numberOf a) (numberOf b) ≡ t → sameKey a b ≡ t
@@ -101,13 +99,6 @@ module _ (a b : Key) (fa : KeyFits a) (fb : KeyFits b) where
           differs : (s : Bool) → sameKey a b ≡ s → s ≡ false
           differs false q = refl
           differs true q =
-              let t0 = and-both (eqb (a .0) (b .0)) _ q in
-              let t1 = and-both (eqb (a .1) (b .1)) _ (t0 .1) in
-              let t2 = and-both (eqb (a .2) (b .2)) (eqb (a .3) (b .3)) (t1 .1) in
-              let n : numberOf a ≡ numberOf b = number-same
-              (ap swapped (eqb-true (a .0) (b .0) (t0 .0)))
-              (ap swapped (eqb-true (a .1) (b .1) (t1 .0)))
-              (ap swapped (eqb-true (a .2) (b .2) (t2 .0)))
-              (ap swapped (eqb-true (a .3) (b .3) (t2 .1))) in
+              let n : numberOf a ≡ numberOf b = ap numberOf (same-says a b q) in
               let z : true ≡ false = sym (eq-eqb (numberOf a) (numberOf b) n) ∙ e in
               z

@@ -1,5 +1,5 @@
 -- Laws of the keys' order: what the check's loop keeps, and what its answer says. Assumes nothing.
-use mathlib.Core.Path.{_≡_, refl, sym, ap, subst}
+use mathlib.Core.Path.{_≡_, sym, ap, subst}
 use mathlib.Core.Logic.{_⊎_, ⊎-elim}
 use mathlib.Core.Bool.{Bool, true, false, _&&_}
 use mathlib.Core.List.{List}
@@ -9,8 +9,7 @@ use native.Mathlib.Numerals.{add-one}
 use native.Mathlib.Omega.{arith}
 use lib.Dec.{ltb}
 use borrow.Author.Tests.{lt-ltb, le-ltb, ltb-true}
-use Rattle.types.specs.Base.{allBelow}
-use Rattle.types.proofs.Below.{all-none, all-more, all-not, all-at}
+use Rattle.types.proofs.Below.{and-left, and-right, all-each, all-not, all-at}
 use Rattle.publisher_caps.specs.Message.{keyAt, ascends, noneZero}
 
 -- the key before row i, 0 before the first
@@ -23,19 +22,8 @@ pub record Climbs (m : List ℕ) (i prior : ℕ) : Type 0 where
   pub last : prior ≡ keyBefore m i
   pub each : (j : ℕ) → j < i → keyBefore m j < keyAt m j
 
-all-each : (f : ℕ → Bool) (n : ℕ) → ((i : ℕ) → i < n → f i ≡ true) → allBelow n f ≡ true
-all-each f zero h = all-none f
-all-each f (suc n) h = rw (← add-one n) (all-more f n (all-each f n (λ i l. h i (omega arith))) (h n (omega arith)))
-
 and-true : (a b : Bool) → a ≡ true → b ≡ true → true ≡ (a && b)
 and-true a b ea eb = rw (ea, eb)
-
-and-left : (a b : Bool) → a ≡ false → false ≡ (a && b)
-and-left a b e = rw e
-
-and-right : (a b : Bool) → b ≡ false → false ≡ (a && b)
-and-right true b e = sym e
-and-right false b e = refl
 
 module _ (m : List ℕ) where
   pub climbs-none : (prior : ℕ) → prior ≡ 0 → Climbs m 0 prior
@@ -70,8 +58,8 @@ module _ (m : List ℕ) where
   zero-first rows l h = all-not _ rows 0 l (le-ltb _ _ h)
 
   not-above : (i rows : ℕ) → i < rows → keyAt m i ≤ keyBefore m i → false ≡ (ascends m rows && noneZero m rows)
-  not-above zero rows l h = and-right (ascends m rows) (noneZero m rows) (zero-first rows l h)
-  not-above (suc i) rows l h = and-left (ascends m rows) (noneZero m rows) (ascends-not i rows (omega arith) (rw (add-one i) h))
+  not-above zero rows l h = sym (and-right (ascends m rows) (noneZero m rows) (zero-first rows l h))
+  not-above (suc i) rows l h = sym (and-left (ascends m rows) (noneZero m rows) (ascends-not i rows (omega arith) (rw (add-one i) h)))
 
   pub climbs-not : (i rows prior : ℕ) → Climbs m i prior → i < rows → keyAt m i ≤ prior → false ≡ (ascends m rows && noneZero m rows)
   climbs-not i rows prior h l k = not-above i rows l (omega (arith, h .last))

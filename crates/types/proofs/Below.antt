@@ -9,10 +9,10 @@ use Rattle.types.specs.Base.{allBelow, anyBelow, countBelow, toNat}
 
 -- ---- and, or
 
-and-left : (a b : Bool) → a ≡ false → (a && b) ≡ false
+pub and-left : (a b : Bool) → a ≡ false → (a && b) ≡ false
 and-left a b e = rw e
 
-and-right : (a b : Bool) → b ≡ false → (a && b) ≡ false
+pub and-right : (a b : Bool) → b ≡ false → (a && b) ≡ false
 and-right true b e = e
 and-right false b e = refl
 
@@ -37,6 +37,11 @@ module _ (f : ℕ → Bool) where
   pub all-more : (n : ℕ) → allBelow n f ≡ true → f n ≡ true → allBelow (n + 1) f ≡ true
   unfolding allBelow
   all-more n h e = rw (add-one n, h, e)
+
+  pub all-each : (n : ℕ) → ((i : ℕ) → i < n → f i ≡ true) → allBelow n f ≡ true
+  unfolding allBelow
+  all-each zero h = refl
+  all-each (suc n) h = rw (all-each n (λ i l. h i (omega arith)), h n (omega arith))
 
   pub all-not : (n i : ℕ) → i < n → f i ≡ false → allBelow n f ≡ false
   unfolding allBelow

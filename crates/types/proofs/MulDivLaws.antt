@@ -42,6 +42,10 @@ pub past-at : (a b d : ℕ) → d * 2 ^ 64 ≤ a * b → DoesNotFit ≡ mulDivOf
 unfolding mulDivOf
 past-at a b d h = rw (le-ltb (a * b) (d * 2 ^ 64) h)
 
+-- a divisor of 0 does not fit
+pub by-zero : (a b : ℕ) → DoesNotFit ≡ mulDivOf a b 0
+by-zero a b = past-at a b 0 (omega arith)
+
 -- a number of two words whose upper word is below d is below d * 2 ^ 64, and one whose upper word is not, is not
 pub upper-below : (n hi lo d : ℕ) → hi * 2 ^ 64 + lo ≡ n → lo < 2 ^ 64 → hi < d → n < d * 2 ^ 64
 upper-below n hi lo d e hl hd = omega arith

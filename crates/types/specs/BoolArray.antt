@@ -13,7 +13,7 @@ use Rattle.types.specs.Base.{if_then_else_, countBelow}
 abbrev pub bitAt : (w b : ℕ) → ℕ
 bitAt w b = w / 2 ^ b % 2
 
--- whether row i is marked; a row past 1,024 never is
+-- whether row i is marked; rows count from 0, and from 1,024 on none ever is
 unfoldable pub marked : List ℕ → ℕ → Bool
 marked words i = ltb i 1_024 && eqb (bitAt (getD words (i / 64) 0) (i % 64)) 1
 
