@@ -1,11 +1,11 @@
--- Tests and counts over the numbers below n, one number more. Assumes nothing.
+-- Sums, tests, counts and the first that passes, over the numbers below n, one number more. Assumes nothing.
 use mathlib.Core.Path.{_≡_, refl, sym, ap, _∙_}
 use mathlib.Core.Bool.{Bool, true, false, _&&_, _||_}
-use Prim.Native.Nat.{ℕ, zero, suc, _+_, _<_}
+use Prim.Native.Nat.{ℕ, zero, suc, _+_, _≤_, _<_}
 use native.Mathlib.Numerals.{add-one}
 use native.Mathlib.Decide.{ℕ-discrete}
 use native.Mathlib.Omega.{arith}
-use Rattle.types.specs.Base.{allBelow, anyBelow, countBelow, toNat}
+use Rattle.types.specs.Base.{sumBelow, allBelow, anyBelow, countBelow, toNat, oneMore, firstBelow}
 
 -- ---- and, or
 
@@ -26,6 +26,21 @@ or-left a b e = rw e
 or-right : (a b : Bool) → b ≡ true → (a || b) ≡ true
 or-right true b e = refl
 or-right false b e = e
+
+-- ---- a sum
+
+pub sum-none : (f : ℕ → ℕ) → 0 ≡ sumBelow 0 f
+unfolding sumBelow
+sum-none f = refl
+
+pub sum-more : (f : ℕ → ℕ) (n : ℕ) → sumBelow (n + 1) f ≡ sumBelow n f + f n
+unfolding sumBelow
+sum-more f n = rw (add-one n)
+
+pub sum-same : (f g : ℕ → ℕ) (n : ℕ) → ((i : ℕ) → i < n → f i ≡ g i) → sumBelow n f ≡ sumBelow n g
+unfolding sumBelow
+sum-same f g zero h = refl
+sum-same f g (suc n) h = rw (sum-same f g n (λ i l. h i (omega arith)), h n (omega arith))
 
 -- ---- a test of every number
 
@@ -60,6 +75,11 @@ module _ (f : ℕ → Bool) where
       go : Dec (i ≡ n) → (i < n → f i ≡ true) → f i ≡ true
       go (yes q) r = ap f q ∙ and-both (allBelow n f) (f n) e .1
       go (no q) r = r (omega arith)
+
+pub all-same : (f g : ℕ → Bool) (n : ℕ) → ((i : ℕ) → i < n → f i ≡ g i) → allBelow n f ≡ allBelow n g
+unfolding allBelow
+all-same f g zero h = refl
+all-same f g (suc n) h = rw (all-same f g n (λ i l. h i (omega arith)), h n (omega arith))
 
 -- ---- a test of some number
 
@@ -96,3 +116,55 @@ pub count-same : (f g : ℕ → Bool) (n : ℕ) → ((i : ℕ) → i < n → f i
 unfolding countBelow
 count-same f g zero h = refl
 count-same f g (suc n) h = rw (count-same f g n (λ i l. h i (omega arith)), h n (omega arith))
+
+-- ---- the first
+
+-- no number below n passes the test; what a loop that looks for the first keeps
+pub record NoneBelow (f : ℕ → Bool) (n : ℕ) : Type 0 where
+  pub none : (i : ℕ) → i < n → f i ≡ false
+
+pub none-start : (f : ℕ → Bool) → NoneBelow f 0
+none-start f = record { none = λ i l. absurd (omega arith) }
+
+pub none-more : (f : ℕ → Bool) (n : ℕ) → NoneBelow f n → f n ≡ false → NoneBelow f (n + 1)
+none-more f n h e = record { none = λ i l. go i (ℕ-discrete i n) l }
+  where
+    go : (i : ℕ) → Dec (i ≡ n) → i < n + 1 → f i ≡ false
+    go i (yes q) l = ap f q ∙ e
+    go i (no q) l = h .none i (omega arith)
+
+pub first-at : (n i : ℕ) (f : ℕ → Bool) → i < n → NoneBelow f i → f i ≡ true → i ≡ firstBelow n f
+unfolding firstBelow
+first-at zero i f l h t = absurd (omega arith)
+first-at (suc n) zero f l h t = rw t
+first-at (suc n) (suc i) f l h t =
+    rw (h .none 0 (omega arith)) (ap suc (first-at n i (λ j. f (suc j)) (omega arith) (record { none = λ j k. h .none (suc j) (omega arith) }) t))
+
+pub first-none : (n : ℕ) (f : ℕ → Bool) → NoneBelow f n → n ≡ firstBelow n f
+unfolding firstBelow
+first-none zero f h = refl
+first-none (suc n) f h = rw (h .none 0 (omega arith)) (ap suc (first-none n (λ j. f (suc j)) (record { none = λ j k. h .none (suc j) (omega arith) })))
+
+pub first-le : (n : ℕ) (f : ℕ → Bool) → firstBelow n f ≤ n
+unfolding firstBelow
+first-le zero f = omega arith
+first-le (suc n) f = go (f 0) (first-le n (λ i. f (suc i)))
+  where
+    go : (t : Bool) → firstBelow n (λ i. f (suc i)) ≤ n → oneMore t (firstBelow n (λ i. f (suc i))) ≤ suc n
+    go true h = omega arith
+    go false h = omega arith
+
+-- none before the first passes
+pub first-before : (n : ℕ) (f : ℕ → Bool) (i : ℕ) → i < firstBelow n f → f i ≡ false
+unfolding firstBelow
+first-before zero f i l = absurd (omega arith)
+first-before (suc n) f zero l = go (f 0) refl l
+  where
+    go : (t : Bool) → f 0 ≡ t → 0 < oneMore t (firstBelow n (λ j. f (suc j))) → f 0 ≡ false
+    go true e l = absurd (omega arith)
+    go false e l = e
+first-before (suc n) f (suc i) l = go (f 0) l (λ k. first-before n (λ j. f (suc j)) i k)
+  where
+    go : (t : Bool) → suc i < oneMore t (firstBelow n (λ j. f (suc j))) → (i < firstBelow n (λ j. f (suc j)) → f (suc i) ≡ false) → f (suc i) ≡ false
+    go true l r = absurd (omega arith)
+    go false l r = r (omega arith)

@@ -29,6 +29,16 @@ abbrev pub mapOutcome : {A B : Type 0} → (A → B) → Outcome A → Outcome B
 mapOutcome f (refused n) = refused n
 mapOutcome f (accepted a) = accepted (f a)
 
+-- what stands after a call: a refused call leaves what it found
+abbrev pub after : {A B : Type 0} → Outcome A → (A → B) → B → B
+after (refused n) f found = found
+after (accepted a) f found = f a
+
+-- f 0 + f 1 + .. + f (n - 1)
+unfoldable pub sumBelow : ℕ → (ℕ → ℕ) → ℕ
+sumBelow zero f = 0
+sumBelow (suc n) f = sumBelow n f + f n
+
 -- a test holds of every number below n
 unfoldable pub allBelow : ℕ → (ℕ → Bool) → Bool
 allBelow zero f = true
@@ -47,3 +57,12 @@ toNat false = 0
 unfoldable pub countBelow : ℕ → (ℕ → Bool) → ℕ
 countBelow zero f = 0
 countBelow (suc n) f = countBelow n f + toNat (f n)
+
+-- the first number below n that a test holds of, n where it holds of none
+abbrev pub oneMore : Bool → ℕ → ℕ
+oneMore true r = 0
+oneMore false r = suc r
+
+unfoldable pub firstBelow : ℕ → (ℕ → Bool) → ℕ
+firstBelow zero f = 0
+firstBelow (suc n) f = oneMore (f 0) (firstBelow n (λ i. f (suc i)))

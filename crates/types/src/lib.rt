@@ -14,4 +14,5 @@ pub const FRAC_64_MULTIPLIER: u64 = 1_000_000;
 
 pub mod bool_array;
 pub mod mul_div;
+pub mod refusals;
 pub mod wide;
