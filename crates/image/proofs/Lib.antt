@@ -1,0 +1,10 @@
+pub mod ListLaws
+pub mod StrideLaws
+pub mod AgeLaws
+pub mod LayoutLaws
+pub mod ImageLaws
+pub mod HoldsLaws
+pub mod PlaceLaws
+pub mod SeatLaws
+pub mod WriteLaws
+pub mod PartLaws

@@ -1,0 +1,40 @@
+-- `image::seats::delegation_fee` meets its contract. Assumes nothing.
+use native.Mathlib.Omega.{arith}
+use Rattle.image.specs.Layout.{seat, delegationFees}
+use Rattle.image.proofs.SeatLaws.{read-at}
+use borrow.Author.Needs.{needs}
+use Rattle.image.proofs.seats.delegation_fee.Statement.{statement}
+use Rattle.image.proofs.seats.delegation_fee.Tie as tie
+
+num-events-at-requires : tie.Need-num-events-at-requires
+num-events-at-requires c κs = search needs
+
+add-at : tie.Need-add-at
+add-at c = search needs
+
+add-at-2 : tie.Need-add-at-2
+add-at-2 c = search needs
+
+add-at-3 : tie.Need-add-at-3
+add-at-3 c = search needs
+
+mul-result : tie.Need-mul-result
+mul-result c = search needs
+
+shared-slice-read-result : tie.Need-shared-slice-read-result
+shared-slice-read-result c = search needs
+
+returns : tie.Need-returns
+returns c = read-at _ _ _ (seat _ delegationFees) _ (omega arith)
+
+pub delegation-fee-spec : {M : Type 1} → statement M
+delegation-fee-spec =
+    tie.close
+    (tie.spec
+    num-events-at-requires
+    add-at
+    add-at-2
+    add-at-3
+    mul-result
+    shared-slice-read-result
+    returns)
