@@ -1,0 +1,4 @@
+pub mod StakeLaws
+pub mod RowLaws
+pub mod PlanLaws
+pub mod EventsLaws

@@ -1,0 +1,4 @@
+pub mod Advance
+pub mod Stake
+pub mod Rows
+pub mod Plan
