@@ -1,0 +1,4 @@
+pub mod Events
+pub mod Sides
+pub mod Rows
+pub mod Head
