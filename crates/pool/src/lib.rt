@@ -1,0 +1,2 @@
+// What the pool does with an image that has been checked.
+pub mod advance;
