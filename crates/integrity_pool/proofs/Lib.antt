@@ -1,0 +1,4 @@
+pub mod AcceptedLaws
+pub mod RingLaws
+pub mod Examples
+pub mod CallLaws
