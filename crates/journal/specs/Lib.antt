@@ -1,0 +1,4 @@
+pub mod Held
+pub mod Bytes
+pub mod Calls
+pub mod Fields

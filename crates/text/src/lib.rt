@@ -1,0 +1,128 @@
+// Fields of a journal, read from their bytes.
+ghost use mathlib.Core.Path.{_≡_};
+ghost use Prim.Native.Nat.{_+_, _*_, _≤_, _<_};
+ghost use lib.ListN.{length};
+ghost use Rattle.text.specs.Decimal.{numberOf};
+ghost use Rattle.text.specs.Hex.{nibbleOf, allHex, bytesOf, spelled};
+
+pub enum Number {
+    Value(u64),
+    NoDigits,
+    NotDigit,
+    TooLarge,
+}
+
+fn widened(b: u8) -> u64
+    ensures { λ r. ⌜ (r ≡ b) × (r < 256) ⌝ }
+{
+    b as u64
+}
+
+// The number that the bytes spell in decimal.
+pub fn decimal(s: &[u8]) -> Number
+    ensures { λ r. ⌜ r ≡ numberOf (now (s .entry)) ⌝ }
+{
+    if s.len() == 0 {
+        return Number::NoDigits;
+    }
+    let mut total: u64 = 0;
+    let mut i = 0;
+    while i < s.len() {
+        let b = widened(s[i]);
+        if b < 48 {
+            return Number::NotDigit;
+        }
+        if 57 < b {
+            return Number::NotDigit;
+        }
+        let d = b - 48;
+        if 1844674407370955161 < total {
+            return Number::TooLarge;
+        }
+        let tens = total * 10;
+        if 0xffff_ffff_ffff_ffff - tens < d {
+            return Number::TooLarge;
+        }
+        total = tens + d;
+        i += 1;
+    }
+    Number::Value(total)
+}
+
+// The value of a hexadecimal digit in either case, and 16 for any other byte.
+pub fn nibble(b: u8) -> u64
+    ensures { λ r. ⌜ (r ≡ nibbleOf b) × (r ≤ 16) ⌝ }
+{
+    let x = widened(b);
+    if x < 48 {
+        return 16;
+    }
+    if x < 58 {
+        return x - 48;
+    }
+    if x < 65 {
+        return 16;
+    }
+    if x < 71 {
+        return x - 55;
+    }
+    if x < 97 {
+        return 16;
+    }
+    if x < 103 {
+        return x - 87;
+    }
+    16
+}
+
+// Whether every byte is a hexadecimal digit.
+pub fn all_hex(s: &[u8]) -> bool
+    ensures { λ r. ⌜ r ≡ allHex (now (s .entry)) ⌝ }
+{
+    let mut i = 0;
+    while i < s.len() {
+        if nibble(s[i]) == 16 {
+            return false;
+        }
+        i += 1;
+    }
+    true
+}
+
+// The byte that two digits spell; at most 272, which no digits reach.
+pub fn pair(high: u8, low: u8) -> u64
+    ensures { λ r. ⌜ (r ≡ nibbleOf high * 16 + nibbleOf low) × (r ≤ 272) ⌝ }
+{
+    let h = nibble(high);
+    let l = nibble(low);
+    h * 16 + l
+}
+
+pub enum BytesRead {
+    Count(usize),
+    NotBytes,
+    TooMany,
+}
+
+// Hexadecimal digits as bytes, put at the start of `out`.
+pub fn bytes(s: &[u8], out: &mut [u8]) -> BytesRead
+    ensures { λ r. ⌜ (r ≡ bytesOf (now (s .entry)) (length (now (out .entry)))) × (now (out .exit) ≡ spelled r (now (s .entry)) (now (out .entry))) ⌝ }
+{
+    let n = s.len() / 2;
+    if n * 2 != s.len() {
+        return BytesRead::NotBytes;
+    }
+    if all_hex(s) {
+        if out.len() < n {
+            return BytesRead::TooMany;
+        }
+        let mut i = 0;
+        while i < n {
+            let j = i * 2;
+            out[i] = pair(s[j], s[j + 1]) as u8;
+            i += 1;
+        }
+        return BytesRead::Count(n);
+    }
+    BytesRead::NotBytes
+}
