@@ -4,6 +4,7 @@ A binary stands in target/NAME with a digest of all that went into it; where the
 the same, nothing is built.
 """
 import fcntl
+import functools
 import hashlib
 import os
 import subprocess
@@ -28,6 +29,7 @@ def inputs():
     return own + [os.path.join(sources(), s) for s in prepare.SOURCES]
 
 
+@functools.cache
 def digest():
     all_of_them = hashlib.sha256()
     for path in inputs():
@@ -52,8 +54,9 @@ def compile_in(folder, size):
     os.replace(made, os.path.join(folder, "oracle"))
 
 
+@functools.cache
 def binary(p, e, seconds, unlocking):
-    """Its path; built if it is missing or anything that it is made of has changed."""
+    """Its path; built if it is missing or anything that it is made of has changed. Looked at once in a run."""
     name = f"p{p}-e{e}-s{seconds}-u{unlocking}"
     folder = os.path.join(TARGET, name)
     os.makedirs(folder, exist_ok=True)

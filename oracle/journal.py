@@ -1,0 +1,98 @@
+"""A journal as it is written: every line with the model's answer and with who decides the expected one."""
+import os
+import subprocess
+from typing import NamedTuple, Optional
+
+import model
+
+HERE = os.path.dirname(os.path.abspath(__file__))
+MOST_EPOCHS = 100_000       # the oracle's, driver/checks.rs
+
+# Who decides the expected answer.
+RUST = "the Rust"
+OUTSIDE = "the model: outside"      # the oracle must answer `outside`
+LISTED = "the model: listed"        # a difference that docs/DIFFERENCES.md lists
+APART = "the model: behind those"   # the image after one of the two, before both have the same again
+
+CALLS = ("fresh", "advance", "forecast")
+
+
+class Line(NamedTuple):
+    text: str
+    answer: Optional[str]       # the model's; none for a comment
+    decides: Optional[str]
+
+    def name(self):
+        return self.text.split(" ", 1)[0]
+
+
+class Journal:
+    def __init__(self):
+        self.site = model.Site()
+        self.lines = []
+        self.calls = 0          # lines that can be refused
+        self.apart = False
+
+    def comment(self, text):
+        self.lines.append(Line("# " + text, None, None))
+
+    def decides(self, name, answer):
+        refused = answer.startswith("refused")
+        if name in CALLS and answer in ("refused 1", "refused 3", "refused 5"):
+            return OUTSIDE
+        if answer == "refused 2" and name != "fresh":
+            return OUTSIDE
+        if self.site.passed > MOST_EPOCHS:
+            self.apart |= not refused and name == "advance"
+            return OUTSIDE
+        if self.site.n_reached >= model.HALF:
+            self.apart |= name == "advance"
+            return LISTED
+        return APART if self.apart and name in ("image", "nonzero") else RUST
+
+    def say(self, text):
+        """One more line; answers what the model answers. A call finds the same image on both sides."""
+        name, *fields = text.split(" ", 1)
+        if self.apart and name in CALLS:
+            self.put(self.site.words)
+        if name == "new" or (name == "image" and fields):
+            self.apart = False
+        answer = self.site.answer(text)
+        self.calls += name in CALLS
+        self.lines.append(Line(text, answer, self.decides(name, answer)))
+        return answer
+
+    def put(self, words):
+        return self.say("image " + (",".join(map(str, words)) or "-"))
+
+    def text(self):
+        return "".join(line.text + "\n" for line in self.lines)
+
+    def answered(self):
+        return [line for line in self.lines if line.answer is not None]
+
+
+def run(command, text, folder):
+    """The lines that a program writes when given a text."""
+    given, got = (os.path.join(folder, n) for n in ("given", "got"))
+    with open(given, "w") as f:
+        f.write(text)
+    with open(given) as f, open(got, "w") as g:
+        subprocess.run(command, stdin=f, stdout=g, cwd=folder)
+    with open(got) as f:
+        return f.read().splitlines()
+
+
+def oracle(text, folder):
+    return run([os.path.join(HERE, "answer")], text, folder)
+
+
+def agrees(line, rust):
+    """Whether the oracle's answer is the model's, where they must be the same."""
+    if line.decides == RUST:
+        return rust == line.answer
+    return line.decides != OUTSIDE or rust == "outside"
+
+
+def expected(line, rust):
+    return rust if line.decides == RUST else line.answer
