@@ -322,9 +322,6 @@ enough-seats P w seats e = omega (arith, seats-le P w)
 pub some-passed : {P E : ℕ} {img m : List ℕ} {g : Given} {passed : ℕ} → ReadyAfter P E img m g passed → 1 ≤ passed
 some-passed {P} {E} {img} {m} {g} {passed} z = passed-some P (read P E img) m g passed (z .due)
 
-pub count-below : {P E : ℕ} {img m : List ℕ} {g : Given} {passed : ℕ} → ReadyAfter P E img m g passed → (at : ℕ) → at ≡ numEventsAt P E → getD img at 0 < half
-count-below {P} {E} {img} z at e = rw (read-at P E img (head numEvents) at e) (z .ready .count)
-
 module _ (P E : ℕ) (img m : List ℕ) (g : Given) (time : ℕ) (r : Due) (et : time ≡ timeOf m) (e : dueIs r ≡ dueOf (getD img 0 0) time g) where
   due-here : dueIs r ≡ dueOf (read P E img (head lastUpdatedEpoch)) (timeOf m) g
   due-here = e ∙ ap₂ (λ (a b : ℕ). dueOf a b g) (read-at P E img (head lastUpdatedEpoch) 0 refl) et

@@ -176,9 +176,8 @@ pub fn plan(
     let epochs = due::epochs_due(pool[0], time, given);
     match epochs {
         Due::Refused(k) => {
-            let planned = Planned::Refused(k);
             let marks = BoolArray::new();
-            with_rows(planned, 0, 0, marks)
+            with_rows(Planned::Refused(k), 0, 0, marks)
         }
         Due::Passed(passed) => plan_due(
             pool,

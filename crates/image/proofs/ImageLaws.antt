@@ -72,13 +72,3 @@ module _ (P E : ℕ) where
   image-ext x y lx ly h = ext-getD 0 x y (lx ∙ sym ly) (λ i lt.
       let q = placed i (omega arith) in
       rw (q .place) at (h (fieldOf P E i) (q .range)))
-
-  -- a write to a field
-  pub read-set-same : (img : List ℕ) (f : Field) (v : ℕ) → length img ≡ size P E → InRange P E f → read P E (set img (addr P E f) v) f ≡ v
-  unfolding read
-  read-set-same img f v l r = let lt = addr-lt P E f r in getD-set-same img (addr P E f) v 0 (omega arith)
-
-  pub read-set-other : (img : List ℕ) (f g : Field) (v : ℕ) → InRange P E f → InRange P E g → g ≢ f → read P E (set img (addr P E f) v) g ≡ read P E img g
-  unfolding read
-  read-set-other img f g v rf rg ne = getD-set-other img (addr P E f) (addr P E g) v 0
-      (λ e. ne (sym (field-of-addr P E g rg) ∙ ap (fieldOf P E) e ∙ field-of-addr P E f rf))

@@ -1,14 +1,14 @@
 -- Lists of words, word by word: a choice by a test, the list with given words, a part lent and given back. Assumes nothing.
-use mathlib.Core.Path.{_≡_, refl, sym, _∙_, ap, ap₂, subst}
-use mathlib.Core.Logic.{_⊎_, inl, inr, ⊎-elim, _≢_}
+use mathlib.Core.Path.{_≡_, refl, sym, _∙_, ap, subst}
+use mathlib.Core.Logic.{_⊎_, inl, inr, ⊎-elim}
 use mathlib.Core.List.{List, [], _∷_, _++_}
 use Prim.Native.Nat.{ℕ, zero, suc, _+_, _-_, _≤_, _<_, zero-le, suc-le-suc}
 use native.Mathlib.Nat.{le-of-suc-le-suc, not-suc-le-zero, add-sub-of-le}
 use native.Mathlib.Omega.{arith}
 use borrow.Author.Tests.{lt-ltb, le-ltb}
-use lib.ListN.{length, getD, set, length-set, take, drop, length-append, length-drop, List·getD-append}
+use lib.ListN.{length, getD, take, drop, length-append, length-drop, List·getD-append}
 use Rattle.image.specs.Lists.{ifLt, imap, within}
-use lib.Seq.{ext-getD, getD-set-same, getD-set-other, length-take-le, getD-take, getD-drop, getD-append-add, drop-drop}
+use lib.Seq.{ext-getD, length-take-le, getD-take, getD-drop, getD-append-add, drop-drop}
 
 pub lt-or-le : (a b : ℕ) → (a < b) ⊎ (b ≤ a)
 lt-or-le zero zero = inr zero-le
@@ -122,40 +122,3 @@ module _ (f : ℕ → ℕ → ℕ) (l ys : List ℕ) (a w : ℕ) (fits : a + w �
     where
       long : length (take a l ++ (ys ++ drop w (drop a l))) ≡ length l
       long = simp (length-append, many, length-drop) (omega (arith, length-take-le a l (omega arith)))
-
--- v at word a, all else as it was
-unfoldable pub putWord : ℕ → ℕ → ℕ → ℕ → ℕ
-putWord a v o i = ifLt i a o (ifLt a i o v)
-
-module _ (a v o i : ℕ) where
-  pub put-here : i ≡ a → putWord a v o i ≡ v
-  unfolding putWord
-  put-here e = if-le i a _ _ (omega arith) ∙ if-le a i _ _ (omega arith)
-
-  pub put-else : i ≢ a → putWord a v o i ≡ o
-  unfolding putWord
-  put-else n = ⊎-elim (λ x. if-lt i a _ _ x) (λ x. if-le i a _ _ x ∙ if-lt a i _ _ (omega arith)) (lt-or-le i a)
-
--- a store makes one word anew
-pub set-anew : (l : List ℕ) (a v : ℕ) → set l a v ≡ imap (putWord a v) l
-set-anew l a v = anew-is (record { same = length-set l a v; word = at })
-  where
-    at : (i : ℕ) → i < length l → getD (set l a v) i 0 ≡ putWord a v (getD l i 0) i
-    at i b =
-        ⊎-elim (λ x. let n : i ≢ a = omega arith in getD-set-other l a i v 0 n ∙ sym (put-else a v _ i n))
-        (λ x. ⊎-elim (λ y. let n : i ≢ a = omega arith in getD-set-other l a i v 0 n ∙ sym (put-else a v _ i n))
-        (λ y. let e : i ≡ a = omega arith in rw e (getD-set-same l a v 0 (rw e at b)) ∙ sym (put-here a v _ i e))
-        (lt-or-le a i))
-        (lt-or-le i a)
-
--- one after the other
-pub imap-imap : (g f : ℕ → ℕ → ℕ) (l : List ℕ) → imap g (imap f l) ≡ imap (λ o i. g (f o i) i) l
-unfolding imap
-imap-imap g f [] = refl
-imap-imap g f (x ∷ xs) = ap (λ (r : List ℕ). g (f x 0) 0 ∷ r) (imap-imap (λ o i. g o (suc i)) (λ o i. f o (suc i)) xs)
-
--- the same words
-pub imap-ext : (g f : ℕ → ℕ → ℕ) (l : List ℕ) → ((o i : ℕ) → g o i ≡ f o i) → imap g l ≡ imap f l
-unfolding imap
-imap-ext g f [] h = refl
-imap-ext g f (x ∷ xs) h = ap₂ (λ (y : ℕ) (r : List ℕ). y ∷ r) (h x 0) (imap-ext (λ o i. g o (suc i)) (λ o i. f o (suc i)) xs (λ o i. h o (suc i)))

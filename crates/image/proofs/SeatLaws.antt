@@ -9,7 +9,7 @@ use lib.ListN.{length, getD}
 use borrow.Author.Tests.{le-leb, lt-leb, lt-ltb, le-ltb, eq-eqb, leb-true, eqb-true, ltb-true}
 use Rattle.types.specs.Base.{half, if_then_else_, refused, accepted, firstBelow}
 use Rattle.types.specs.Refusals.{invalidPublisher, publisherNotFound}
-use Rattle.types.proofs.Below.{and-both, NoneBelow, first-at, first-none, first-le, first-before}
+use Rattle.types.proofs.Below.{and-both, NoneBelow, first-at, first-none, first-le}
 use Rattle.positions.specs.declared.Key.{Key}
 use Rattle.positions.specs.Key.{sameKey}
 use Rattle.delegation.specs.declared.DelegationState.{DelegationState}
@@ -72,11 +72,6 @@ module _ (P E : ℕ) (img : List ℕ) where
       let r = in-range P E (t .0) in
       record { p-low = r .0; p-high = r .1; e-low = r .2; e-high = r .3; size = eqb-true _ _ (t .1) }
 
-  -- an image that is in order passes
-  pub says-sized : Sized img P E → sizedImage P E img ≡ true
-  unfolding sizedImage
-  says-sized z = simp (le-leb 1 P (z .p-low), le-leb P 1024 (z .p-high), le-leb 1 E (z .e-low), le-leb E 52 (z .e-high), eq-eqb (length img) (size P E) (z .size))
-
   pub not-sized : sizedImage P E img ≡ false → false ≡ checkedImage P E img
   unfolding checkedImage
   not-sized h = rw h
@@ -90,10 +85,6 @@ module _ (P E : ℕ) (img : List ℕ) where
   checked-says h =
       let t = and-both _ _ h in
       (sized-says (t .0), ltb-true _ _ (t .1))
-
-  pub says-checked : Sized img P E → read P E img (head numEvents) < half → checkedImage P E img ≡ true
-  unfolding checkedImage
-  says-checked z h = simp (says-sized z, lt-ltb (read P E img (head numEvents)) half h)
 
 -- a list of the same length is sized as well
 pub sized-as : (P E : ℕ) (img l : List ℕ) → Sized img P E → length l ≡ size P E → Sized l P E
@@ -149,11 +140,6 @@ module _ (P : ℕ) (w : Words) where
   pub seats-le : seatsOf P w ≤ P
   unfolding seatsOf
   seats-le = first-le P (emptySeat w)
-
-  -- the seats counted are occupied
-  pub seat-occupied : (s : ℕ) → s < seatsOf P w → emptySeat w s ≡ false
-  unfolding seatsOf
-  seat-occupied s l = first-before P (emptySeat w) s l
 
   -- ---- a publisher's seat
 

@@ -13,7 +13,7 @@ use Rattle.types.specs.Base.{if_then_else_}
 use Rattle.positions.specs.declared.Key.{Key}
 use Rattle.delegation.specs.declared.DelegationState.{DelegationState}
 use Rattle.image.specs.Layout.{Whose, self, other, publishers, totalDelegation, deltaDelegation, publisherStakeAccounts, numSlashEvents, delegationFees, Field, head, seat, slot, share, Words, size, addr, InRange, read, image}
-use Rattle.image.specs.Seats.{wordOf, withPublisher, same-side, withSide}
+use Rattle.image.specs.Seats.{wordOf, withPublisher, sameSide, withSide}
 use Rattle.image.proofs.HoldsLaws.{put, holds-itself, holds-is, holds-ext, holds-set, put-at, put-apart}
 
 module _ (P E : ℕ) (img : List ℕ) (s : ℕ) (long : length img ≡ size P E) (in-seat : s < P) where
@@ -100,14 +100,14 @@ module _ (P E : ℕ) (img : List ℕ) (s : ℕ) (long : length img ≡ size P E)
 
   -- the side that is written, and the one that is not
   module _ (v : DelegationState) where
-    total-at : (d x : Whose) (q : ℕ) → q < P → Dec (q ≡ s) → v2 d v (seat q (totalDelegation x)) ≡ (if eqb q s && same-side x d then v .«total_delegation» .0 else w0 (seat q (totalDelegation x)))
+    total-at : (d x : Whose) (q : ℕ) → q < P → Dec (q ≡ s) → v2 d v (seat q (totalDelegation x)) ≡ (if eqb q s && sameSide x d then v .«total_delegation» .0 else w0 (seat q (totalDelegation x)))
     total-at self self q l (yes e) = rw (eq-eqb q s e, e) (total-is self v)
     total-at other other q l (yes e) = rw (eq-eqb q s e, e) (total-is other v)
     total-at self other q l (yes e) = rw (eq-eqb q s e) (apart self v (seat q (totalDelegation other)) (l, tt) (λ k. let z : _≡_ {A = ℕ} 0 1 = cc in omega arith) (λ k. let z : _≡_ {A = ℕ} 0 1 = cc in omega arith))
     total-at other self q l (yes e) = rw (eq-eqb q s e) (apart other v (seat q (totalDelegation self)) (l, tt) (λ k. let z : _≡_ {A = ℕ} 0 1 = cc in omega arith) (λ k. let z : _≡_ {A = ℕ} 0 1 = cc in omega arith))
     total-at d x q l (no n) = rw (ne-eqb q s n) (apart d v (seat q (totalDelegation x)) (l, tt) (λ k. n (cc)) (λ k. let z : _≡_ {A = ℕ} 0 1 = cc in omega arith))
 
-    change-at : (d x : Whose) (q : ℕ) → q < P → Dec (q ≡ s) → v2 d v (seat q (deltaDelegation x)) ≡ (if eqb q s && same-side x d then v .«delta_delegation» else w0 (seat q (deltaDelegation x)))
+    change-at : (d x : Whose) (q : ℕ) → q < P → Dec (q ≡ s) → v2 d v (seat q (deltaDelegation x)) ≡ (if eqb q s && sameSide x d then v .«delta_delegation» else w0 (seat q (deltaDelegation x)))
     change-at self self q l (yes e) = rw (eq-eqb q s e, e) (put-at P E (v1 self v) (seat s (deltaDelegation self)) (v .«delta_delegation»))
     change-at other other q l (yes e) = rw (eq-eqb q s e, e) (put-at P E (v1 other v) (seat s (deltaDelegation other)) (v .«delta_delegation»))
     change-at self other q l (yes e) = rw (eq-eqb q s e) (apart self v (seat q (deltaDelegation other)) (l, tt) (λ k. let z : _≡_ {A = ℕ} 0 1 = cc in omega arith) (λ k. let z : _≡_ {A = ℕ} 0 1 = cc in omega arith))

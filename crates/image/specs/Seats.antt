@@ -105,18 +105,18 @@ withPublisher w s k (slot t x) = w (slot t x)
 withPublisher w s k (share t q x) = w (share t q x)
 
 -- the sides are told apart
-abbrev pub same-side : Whose → Whose → Bool
-same-side self self = Bool.true
-same-side self other = Bool.false
-same-side other self = Bool.false
-same-side other other = Bool.true
+abbrev pub sameSide : Whose → Whose → Bool
+sameSide self self = Bool.true
+sameSide self other = Bool.false
+sameSide other self = Bool.false
+sameSide other other = Bool.true
 
 -- seat s with this side, all else as it was
 unfoldable pub withSide : Words → (s : ℕ) → Whose → DelegationState → Words
 withSide w s d v (head h) = w (head h)
 withSide w s d v (seat q (publishers c)) = w (seat q (publishers c))
-withSide w s d v (seat q (totalDelegation x)) = if eqb q s && same-side x d then v .«total_delegation» .0 else w (seat q (totalDelegation x))
-withSide w s d v (seat q (deltaDelegation x)) = if eqb q s && same-side x d then v .«delta_delegation» else w (seat q (deltaDelegation x))
+withSide w s d v (seat q (totalDelegation x)) = if eqb q s && sameSide x d then v .«total_delegation» .0 else w (seat q (totalDelegation x))
+withSide w s d v (seat q (deltaDelegation x)) = if eqb q s && sameSide x d then v .«delta_delegation» else w (seat q (deltaDelegation x))
 withSide w s d v (seat q (publisherStakeAccounts c)) = w (seat q (publisherStakeAccounts c))
 withSide w s d v (seat q numSlashEvents) = w (seat q numSlashEvents)
 withSide w s d v (seat q delegationFees) = w (seat q delegationFees)

@@ -1,22 +1,23 @@
 -- The public calls, one law for each way out of the code. Assumes nothing.
-use mathlib.Core.Path.{_≡_, ap, _∙_}
-use mathlib.Core.Bool.{true, false}
+use mathlib.Core.Path.{_≡_, ap, sym, _∙_}
+use mathlib.Core.Bool.{Bool, true, false, not}
 use mathlib.Core.List.{List}
 use Prim.Native.Nat.{ℕ, _≤_, _<_, _-_}
 use native.Mathlib.Omega.{arith}
+use lib.Dec.{eqb, ltb}
 use borrow.Author.Tests.{lt-ltb, le-ltb, eq-eqb, ne-eqb}
-use Rattle.types.specs.Base.{Outcome, refused, accepted, after}
+use Rattle.types.specs.Base.{if_then_else_, Outcome, refused, accepted, after}
 use Rattle.types.specs.Refusals.{invalidImage, invalidEpoch, invalidPublisherCaps, invalidY}
 use Rattle.publisher_caps.specs.Message.{messageHolds}
 use Rattle.publisher_caps.proofs.MessageLaws.{holds-whole}
 use Rattle.image.specs.Layout.{read, image}
 use Rattle.image.specs.Seats.{sizedImage, checkedImage, freshWords}
-use Rattle.image.proofs.SeatLaws.{checked-says}
 use Rattle.advance_plan.specs.declared.Given.{Given}
 use Rattle.advance_plan.specs.Advance.{Advanced, advanceOf, forecastOf, advancedWords}
 use Rattle.advance_plan.specs.Plan.{Ready}
 use Rattle.pool.specs.Answers.{imageAfter}
-use Rattle.integrity_pool.specs.Calls.{freshCall, freshImage, checkedThen, advanceCall, advanceImage, forecastCall}
+use Rattle.integrity_pool.proofs.AcceptedLaws.{test-passed, then-accepted}
+use Rattle.integrity_pool.specs.Calls.{freshCall, freshImage, checkedThen, passed, advanceCall, advanceImage, forecastCall}
 
 -- ---- fresh
 
@@ -39,84 +40,90 @@ module _ (P E : ℕ) (img : List ℕ) (given : ℕ) where
 
 -- ---- 1 to 5
 
-module _ {A : Type 0} (P E : ℕ) (img m : List ℕ) (g : Given) (r : Outcome A) where
-  then-1 : checkedImage P E img ≡ false → refused invalidImage ≡ checkedThen P E img m g r
+module _ (P E : ℕ) (img m : List ℕ) (g : Given) where
+  pub checks-1 : checkedImage P E img ≡ false → refused invalidImage ≡ checkedThen P E img m g passed
   unfolding checkedThen
-  then-1 h = rw h
+  checks-1 h = rw h
 
   module _ (a : checkedImage P E img ≡ true) where
-    then-2 : g .«epoch_duration» ≡ 0 → refused invalidEpoch ≡ checkedThen P E img m g r
+    pub checks-2 : g .«epoch_duration» ≡ 0 → refused invalidEpoch ≡ checkedThen P E img m g passed
     unfolding checkedThen
-    then-2 h = rw (a, eq-eqb (g .«epoch_duration») 0 h)
+    checks-2 h = rw (a, eq-eqb (g .«epoch_duration») 0 h)
 
     module _ (b : g .«epoch_duration» ≡ 0 → ⊥) where
-      then-3 : messageHolds m ≡ false → refused invalidPublisherCaps ≡ checkedThen P E img m g r
+      pub checks-3 : messageHolds m ≡ false → refused invalidPublisherCaps ≡ checkedThen P E img m g passed
       unfolding checkedThen
-      then-3 h = rw (a, ne-eqb (g .«epoch_duration») 0 b, h)
+      checks-3 h = rw (a, ne-eqb (g .«epoch_duration») 0 b, h)
 
       module _ (c : messageHolds m ≡ true) where
-        then-5 : 10000 < g .y → refused invalidY ≡ checkedThen P E img m g r
+        pub checks-5 : 10000 < g .y → refused invalidY ≡ checkedThen P E img m g passed
         unfolding checkedThen
-        then-5 h = rw (a, ne-eqb (g .«epoch_duration») 0 b, c, lt-ltb 10000 (g .y) h)
+        checks-5 h = rw (a, ne-eqb (g .«epoch_duration») 0 b, c, lt-ltb 10000 (g .y) h)
 
-        then-on : g .y ≤ 10000 → r ≡ checkedThen P E img m g r
+        pub checks-pass : g .y ≤ 10000 → passed ≡ checkedThen P E img m g passed
         unfolding checkedThen
-        then-on h = rw (a, ne-eqb (g .«epoch_duration») 0 b, c, le-ltb 10000 (g .y) h)
+        checks-pass h = rw (a, ne-eqb (g .«epoch_duration») 0 b, c, le-ltb 10000 (g .y) h)
 
--- ---- advance and forecast
+-- ---- what comes behind the checks
+
+numberIn : {A : Type 0} → Outcome A → ℕ
+numberIn (refused k) = k
+numberIn (accepted a) = 0
+
+-- one test more: what is refused behind it, or by it, is so whatever stands at the end
+test-refused : {A B : Type 0} (t : Bool) (k n : ℕ) (rest : Outcome A) (rest′ : Outcome B)
+    → (refused n ≡ rest → refused n ≡ rest′) → refused n ≡ (if t then refused k else rest) → refused n ≡ (if t then refused k else rest′)
+unfolding numberIn
+test-refused true k n rest rest′ f e = ap refused (ap numberIn e)
+test-refused false k n rest rest′ f e = f e
+
+module _ {A : Type 0} (P E : ℕ) (img m : List ℕ) (g : Given) (rest : Outcome A) where
+  then-refused : (k : ℕ) → refused k ≡ checkedThen P E img m g passed → refused k ≡ checkedThen P E img m g rest
+  unfolding checkedThen
+  then-refused k e =
+      test-refused (not (checkedImage P E img)) invalidImage k _ _
+      (test-refused (eqb (g .«epoch_duration») 0) invalidEpoch k _ _
+      (test-refused (not (messageHolds m)) invalidPublisherCaps k _ _
+      (test-refused (ltb 10_000 (g .y)) invalidY k passed rest (λ q. let z : _≡_ {A = ℕ} 0 1 = cc in absurd (omega arith))))) e
+
+  then-on : passed ≡ checkedThen P E img m g passed → rest ≡ checkedThen P E img m g rest
+  unfolding checkedThen
+  then-on e =
+      let t0 = test-passed (not (checkedImage P E img)) _ _ tt (sym e) in
+      let t1 = test-passed (eqb (g .«epoch_duration») 0) _ _ tt (t0 .1) in
+      let t2 = test-passed (not (messageHolds m)) _ _ tt (t1 .1) in
+      let t3 = test-passed (ltb 10_000 (g .y)) _ _ tt (t2 .1) in
+      rw (t0 .0, t1 .0, t2 .0, t3 .0)
 
 module _ (P E : ℕ) (img m : List ℕ) (g : Given) where
-  advance-found : (k : ℕ) → refused k ≡ advanceCall P E img m g → (refused k ≡ advanceCall P E img m g) × (img ≡ advanceImage P E img m g)
-  unfolding advanceImage
-  advance-found k e = (e, ap (λ (o : Outcome Advanced). after o (λ a. image P E (advancedWords P E (read P E img) m (g .«current_epoch») (a .y) (a .setAside))) img) e)
+  pub ready : passed ≡ checkedThen P E img m g passed → Ready P E img m (g .«epoch_duration»)
+  ready e =
+      let x = then-accepted P E img m g passed tt (sym e) .0 in
+      record { sized = x .sized; count = x .count; whole = holds-whole m (x .message); lasts = x .seconds }
 
-  pub advance-1 : checkedImage P E img ≡ false → (refused invalidImage ≡ advanceCall P E img m g) × (img ≡ advanceImage P E img m g)
-  unfolding advanceCall
-  advance-1 h = advance-found invalidImage (then-1 P E img m g _ h)
+  leaves : Outcome Advanced → List ℕ
+  leaves o = after o (λ a. image P E (advancedWords P E (read P E img) m (g .«current_epoch») (a .y) (a .setAside))) img
 
-  pub forecast-1 : checkedImage P E img ≡ false → refused invalidImage ≡ forecastCall P E img m g
+  -- ---- advance and forecast
+
+  pub advance-refused : (k : ℕ) → refused k ≡ checkedThen P E img m g passed → (refused k ≡ advanceCall P E img m g) × (img ≡ advanceImage P E img m g)
+  unfolding advanceCall advanceImage leaves
+  advance-refused k e =
+      let t = then-refused P E img m g (advanceOf P (read P E img) m g) k e in
+      (t, ap leaves t)
+
+  pub advance-on : passed ≡ checkedThen P E img m g passed → (o : Outcome Advanced) (l : List ℕ)
+      → o ≡ advanceOf P (read P E img) m g → l ≡ imageAfter P E img m g (advanceOf P (read P E img) m g)
+      → (o ≡ advanceCall P E img m g) × (l ≡ advanceImage P E img m g)
+  unfolding advanceCall advanceImage imageAfter leaves
+  advance-on e o l q w =
+      let t = then-on P E img m g (advanceOf P (read P E img) m g) e in
+      (q ∙ t, w ∙ ap leaves t)
+
+  pub forecast-refused : (k : ℕ) → refused k ≡ checkedThen P E img m g passed → refused k ≡ forecastCall P E img m g
   unfolding forecastCall
-  forecast-1 h = then-1 P E img m g _ h
+  forecast-refused k e = then-refused P E img m g (forecastOf P (read P E img) m g) k e
 
-  module _ (a : checkedImage P E img ≡ true) where
-    pub advance-2 : g .«epoch_duration» ≡ 0 → (refused invalidEpoch ≡ advanceCall P E img m g) × (img ≡ advanceImage P E img m g)
-    unfolding advanceCall
-    advance-2 h = advance-found invalidEpoch (then-2 P E img m g _ a h)
-
-    pub forecast-2 : g .«epoch_duration» ≡ 0 → refused invalidEpoch ≡ forecastCall P E img m g
-    unfolding forecastCall
-    forecast-2 h = then-2 P E img m g _ a h
-
-    module _ (b : g .«epoch_duration» ≡ 0 → ⊥) where
-      pub advance-3 : messageHolds m ≡ false → (refused invalidPublisherCaps ≡ advanceCall P E img m g) × (img ≡ advanceImage P E img m g)
-      unfolding advanceCall
-      advance-3 h = advance-found invalidPublisherCaps (then-3 P E img m g _ a b h)
-
-      pub forecast-3 : messageHolds m ≡ false → refused invalidPublisherCaps ≡ forecastCall P E img m g
-      unfolding forecastCall
-      forecast-3 h = then-3 P E img m g _ a b h
-
-      module _ (c : messageHolds m ≡ true) where
-        pub advance-5 : 10000 < g .y → (refused invalidY ≡ advanceCall P E img m g) × (img ≡ advanceImage P E img m g)
-        unfolding advanceCall
-        advance-5 h = advance-found invalidY (then-5 P E img m g _ a b c h)
-
-        pub forecast-5 : 10000 < g .y → refused invalidY ≡ forecastCall P E img m g
-        unfolding forecastCall
-        forecast-5 h = then-5 P E img m g _ a b c h
-
-        pub ready : Ready P E img m (g .«epoch_duration»)
-        ready =
-            let x = checked-says P E img a in
-            record { sized = x .0; count = x .1; whole = holds-whole m c; lasts = omega arith }
-
-        pub advance-on : (o : Outcome Advanced) (l : List ℕ) → g .y ≤ 10000 → o ≡ advanceOf P (read P E img) m g → l ≡ imageAfter P E img m g (advanceOf P (read P E img) m g)
-            → (o ≡ advanceCall P E img m g) × (l ≡ advanceImage P E img m g)
-        unfolding advanceCall advanceImage imageAfter
-        advance-on o l h e q =
-            let t = then-on P E img m g (advanceOf P (read P E img) m g) a b c h in
-            (e ∙ t, q ∙ ap (λ (o : Outcome Advanced). after o (λ a. image P E (advancedWords P E (read P E img) m (g .«current_epoch») (a .y) (a .setAside))) img) t)
-
-        pub forecast-on : (o : Outcome ℕ) → g .y ≤ 10000 → o ≡ forecastOf P (read P E img) m g → o ≡ forecastCall P E img m g
-        unfolding forecastCall
-        forecast-on o h e = e ∙ then-on P E img m g (forecastOf P (read P E img) m g) a b c h
+  pub forecast-on : passed ≡ checkedThen P E img m g passed → (o : Outcome ℕ) → o ≡ forecastOf P (read P E img) m g → o ≡ forecastCall P E img m g
+  unfolding forecastCall
+  forecast-on e o q = q ∙ then-on P E img m g (forecastOf P (read P E img) m g) e

@@ -10,6 +10,8 @@ use Rattle.image.specs.Layout.{read, image}
 use Rattle.image.specs.Seats.{sizedImage, checkedImage, freshWords}
 use Rattle.advance_plan.specs.declared.Given.{Given}
 use Rattle.advance_plan.specs.Advance.{Advanced, advanceOf, forecastOf, advancedWords}
+use Rattle.integrity_pool.specs.declared.Checks.{Checks}
+use Rattle.integrity_pool.specs.declared.Checks.the-variants as checks
 use Rattle.integrity_pool.specs.declared.FreshAnswer.{FreshAnswer}
 use Rattle.integrity_pool.specs.declared.FreshAnswer.the-variants.{Done, Refused}
 
@@ -39,6 +41,14 @@ checkedThen P E img m g rest =
     else if not (messageHolds m) then refused invalidPublisherCaps
     else if ltb 10_000 (g .y) then refused invalidY
     else rest
+
+-- none of them is given
+abbrev pub passed : Outcome (Unit {0})
+passed = accepted tt
+
+abbrev pub checksIs : Checks → Outcome (Unit {0})
+checksIs checks.Passed = passed
+checksIs (checks.Refused k) = refused k
 
 unfoldable pub advanceCall : (P E : ℕ) → List ℕ → List ℕ → Given → Outcome Advanced
 advanceCall P E img m g = checkedThen P E img m g (advanceOf P (read P E img) m g)

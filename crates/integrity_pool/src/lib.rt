@@ -2,7 +2,7 @@
 // no word.
 ghost use mathlib.Core.Path.{_≡_};
 ghost use Rattle.pool.specs.Answers.{advanceIs, forecastIs};
-ghost use Rattle.integrity_pool.specs.Calls.{freshIs, freshCall, freshImage, advanceCall, advanceImage, forecastCall};
+ghost use Rattle.integrity_pool.specs.Calls.{freshIs, freshCall, freshImage, checkedThen, passed, checksIs, advanceCall, advanceImage, forecastCall};
 use advance_plan::Given;
 use pool::advance::AdvanceAnswer;
 use pool::advance::ForecastAnswer;
@@ -35,48 +35,53 @@ pub fn fresh(pool: &mut [u64], p: usize, e: usize, epoch: u64) -> FreshAnswer
     FreshAnswer::Done
 }
 
+// Refusal 1, 2, 3 or 5, or none of them.
+enum Checks {
+    Passed,
+    Refused(u64),
+}
+
+// What an advance and a forecast check before the pool itself is looked at.
+fn check_inputs(pool: &[u64], p: usize, e: usize, m: &[u8], given: Given) -> Checks
+    ensures { λ r. ⌜ checksIs r ≡ checkedThen p e (now (pool .entry)) (now (m .entry)) given passed ⌝ }
+{
+    let right = image::checked(pool, p, e);
+    if !right {
+        return Checks::Refused(INVALID_IMAGE);
+    }
+    let seconds = given.epoch_duration;
+    if seconds == 0 {
+        return Checks::Refused(INVALID_EPOCH);
+    }
+    let whole = publisher_caps::checked(m);
+    if !whole {
+        return Checks::Refused(INVALID_PUBLISHER_CAPS);
+    }
+    let y = given.y;
+    if MAX_Y < y {
+        return Checks::Refused(INVALID_Y);
+    }
+    Checks::Passed
+}
+
 // Items 4 and 5: the epochs up to the current one are passed.
 pub fn advance(pool: &mut [u64], p: usize, e: usize, m: &[u8], given: Given) -> AdvanceAnswer
     ensures { λ r. ⌜ (advanceIs r ≡ advanceCall p e (now (pool .entry)) (now (m .entry)) given) × (now (pool .exit) ≡ advanceImage p e (now (pool .entry)) (now (m .entry)) given) ⌝ }
 {
-    let right = image::checked(&pool[..], p, e);
-    if !right {
-        return AdvanceAnswer::Refused(INVALID_IMAGE);
+    let checks = check_inputs(&pool[..], p, e, m, given);
+    match checks {
+        Checks::Refused(k) => AdvanceAnswer::Refused(k),
+        Checks::Passed => pool::advance::advance(pool, p, e, m, given),
     }
-    let seconds = given.epoch_duration;
-    if seconds == 0 {
-        return AdvanceAnswer::Refused(INVALID_EPOCH);
-    }
-    let whole = publisher_caps::checked(m);
-    if !whole {
-        return AdvanceAnswer::Refused(INVALID_PUBLISHER_CAPS);
-    }
-    let y = given.y;
-    if MAX_Y < y {
-        return AdvanceAnswer::Refused(INVALID_Y);
-    }
-    pool::advance::advance(pool, p, e, m, given)
 }
 
 // What an advance would set aside, every passed epoch taken at the rolled totals.
 pub fn forecast(pool: &[u64], p: usize, e: usize, m: &[u8], given: Given) -> ForecastAnswer
     ensures { λ r. ⌜ forecastIs r ≡ forecastCall p e (now (pool .entry)) (now (m .entry)) given ⌝ }
 {
-    let right = image::checked(pool, p, e);
-    if !right {
-        return ForecastAnswer::Refused(INVALID_IMAGE);
+    let checks = check_inputs(pool, p, e, m, given);
+    match checks {
+        Checks::Refused(k) => ForecastAnswer::Refused(k),
+        Checks::Passed => pool::advance::forecast(pool, p, e, m, given),
     }
-    let seconds = given.epoch_duration;
-    if seconds == 0 {
-        return ForecastAnswer::Refused(INVALID_EPOCH);
-    }
-    let whole = publisher_caps::checked(m);
-    if !whole {
-        return ForecastAnswer::Refused(INVALID_PUBLISHER_CAPS);
-    }
-    let y = given.y;
-    if MAX_Y < y {
-        return ForecastAnswer::Refused(INVALID_Y);
-    }
-    pool::advance::forecast(pool, p, e, m, given)
 }
