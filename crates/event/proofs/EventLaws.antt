@@ -115,6 +115,17 @@ module _ (a y ratio fee : ℕ) (selfSide : Bool) where
   pub reward-13-only : rewardOf a y ratio fee selfSide ≡ refused doesNotFit → (a ≡ 0 → ⊥) × Unfit a y ratio fee selfSide
   reward-13-only e = subst (Tells a y ratio fee selfSide) e reward-tells .1
 
+-- an event's parts add up to what the amount earns at the side's ratio
+pub event-adds : (e : Event) (a : ℕ) (selfSide : Bool) (p : Parts) → eventReward e a selfSide ≡ accepted p
+    → p .delegator + p .publisher ≡ totalOf a (rateOf (e .y .0) (if selfSide then e .«event_data» .«self_reward_ratio» .0 else e .«event_data» .«other_reward_ratio» .0))
+unfolding eventReward
+event-adds e a selfSide p q = reward-adds a _ _ _ selfSide p q
+
+-- amount 0 earns nothing in any event
+pub event-none : (e : Event) (a : ℕ) (selfSide : Bool) → a ≡ 0 → accepted (record { delegator = 0; publisher = 0 }) ≡ eventReward e a selfSide
+unfolding eventReward
+event-none e a selfSide z = sym (reward-none a _ _ _ selfSide z)
+
 -- ---- what amounts earn apart is at most what they earn together
 
 pub total-split : (a b rate : ℕ) → totalOf a rate + totalOf b rate ≤ totalOf (a + b) rate

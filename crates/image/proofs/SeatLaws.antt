@@ -159,3 +159,14 @@ module _ (P : ℕ) (w : Words) where
     index-none s e q h =
         let z : firstBelow P (λ i. sameKey (publisherAt w i) k) ≡ P = sym (first-none P (λ i. sameKey (publisherAt w i) k) (record { none = λ j l. h .none j (omega arith) })) in
         simp (e, z, le-ltb P P (omega arith))
+
+    -- the seat of a publisher that is found is one of the pool's
+    pub index-lt : (s : ℕ) → publisherIndexOf P w k ≡ accepted s → s < P
+    unfolding publisherIndexOf
+    index-lt s e = go (sameKey k zeroKey) (ltb (firstSeat P w k) P) refl e
+      where
+        go : (z t : Bool) → ltb (firstSeat P w k) P ≡ t
+            → (if z then refused invalidPublisher else if t then accepted (firstSeat P w k) else refused publisherNotFound) ≡ accepted s → s < P
+        go true t h e = absurd (let x : _≡_ {A = ℕ} 0 1 = cc in omega arith)
+        go false true h e = let q : firstSeat P w k ≡ s = cc in omega (arith, ltb-true (firstSeat P w k) P h)
+        go false false h e = absurd (let x : _≡_ {A = ℕ} 0 1 = cc in omega arith)

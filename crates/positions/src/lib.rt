@@ -5,6 +5,12 @@ ghost use Rattle.positions.specs.Key.{sameKey};
 // A 32-byte key as four little-endian words, as the image holds it: the Rust's Pubkey.
 pub struct Key(pub u64, pub u64, pub u64, pub u64);
 
+// An account that may be absent: a key, or none.
+pub enum OptionKey {
+    Some(Key),
+    None,
+}
+
 // Whether two keys are the same.
 pub fn same_key(a: Key, b: Key) -> bool
     ensures { λ r. ⌜ r ≡ sameKey a b ⌝ }

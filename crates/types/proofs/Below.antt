@@ -1,7 +1,8 @@
 -- Sums, tests, counts and the first that passes, over the numbers below n, one number more. Assumes nothing.
 use mathlib.Core.Path.{_≡_, refl, sym, ap, _∙_}
 use mathlib.Core.Bool.{Bool, true, false, _&&_, _||_}
-use Prim.Native.Nat.{ℕ, zero, suc, _+_, _≤_, _<_}
+use Prim.Native.Nat.{ℕ, zero, suc, _+_, _*_, _≤_, _<_}
+use native.Mathlib.Nat.{add-mul, add-le-add}
 use native.Mathlib.Numerals.{add-one}
 use native.Mathlib.Decide.{ℕ-discrete}
 use native.Mathlib.Omega.{arith}
@@ -41,6 +42,26 @@ pub sum-same : (f g : ℕ → ℕ) (n : ℕ) → ((i : ℕ) → i < n → f i �
 unfolding sumBelow
 sum-same f g zero h = refl
 sum-same f g (suc n) h = rw (sum-same f g n (λ i l. h i (omega arith)), h n (omega arith))
+
+-- sums only grow
+pub sum-grows : (f : ℕ → ℕ) (m n : ℕ) → m ≤ n → sumBelow m f ≤ sumBelow n f
+unfolding sumBelow
+sum-grows f m zero h = let q : m ≡ 0 = omega arith in omega (arith, ap (λ (k : ℕ). sumBelow k f) q)
+sum-grows f m (suc n) h = go (ℕ-discrete m (suc n)) (λ l. sum-grows f m n l)
+  where
+    go : Dec (m ≡ suc n) → (m ≤ n → sumBelow m f ≤ sumBelow n f) → sumBelow m f ≤ sumBelow n f + f n
+    go (yes q) r = omega (arith, ap (λ (k : ℕ). sumBelow k f) q)
+    go (no q) r = omega (arith, r (omega arith))
+
+-- terms that are 0 add nothing
+pub sum-skips : (f : ℕ → ℕ) (m n : ℕ) → m ≤ n → ((i : ℕ) → m ≤ i → i < n → f i ≡ 0) → sumBelow n f ≡ sumBelow m f
+unfolding sumBelow
+sum-skips f m zero h e = let q : 0 ≡ m = omega arith in ap (λ (k : ℕ). sumBelow k f) q
+sum-skips f m (suc n) h e = go (ℕ-discrete m (suc n)) (λ l. sum-skips f m n l (λ i a b. e i a (omega arith)))
+  where
+    go : Dec (m ≡ suc n) → (m ≤ n → sumBelow n f ≡ sumBelow m f) → sumBelow n f + f n ≡ sumBelow m f
+    go (yes q) r = sym (ap (λ (k : ℕ). sumBelow k f) q)
+    go (no q) r = omega (arith, r (omega arith), e n (omega arith) (omega arith))
 
 -- ---- a test of every number
 
@@ -117,6 +138,31 @@ unfolding countBelow
 count-same f g zero h = refl
 count-same f g (suc n) h = rw (count-same f g n (λ i l. h i (omega arith)), h n (omega arith))
 
+pub count-le : (f : ℕ → Bool) (n : ℕ) → countBelow n f ≤ n
+unfolding countBelow
+count-le f zero = omega arith
+count-le f (suc n) = go (f n) (count-le f n)
+  where
+    go : (t : Bool) → countBelow n f ≤ n → countBelow n f + toNat t ≤ suc n
+    go true h = omega arith
+    go false h = omega arith
+
+-- a count is a sum of ones
+count-sum : (f : ℕ → Bool) (n : ℕ) → countBelow n f ≡ sumBelow n (λ i. toNat (f i))
+unfolding sumBelow countBelow
+count-sum f zero = refl
+count-sum f (suc n) = rw (count-sum f n)
+
+-- numbers that fail the test are not counted
+pub count-skips : (f : ℕ → Bool) (m n : ℕ) → m ≤ n → ((i : ℕ) → m ≤ i → i < n → f i ≡ false) → countBelow n f ≡ countBelow m f
+count-skips f m n h e = count-sum f n ∙ sum-skips (λ i. toNat (f i)) m n h (λ i a b. ap toNat (e i a b)) ∙ sym (count-sum f m)
+
+-- terms of at most m each, and nothing where a test fails
+pub sum-counted : (f : ℕ → ℕ) (t : ℕ → Bool) (m n : ℕ) → ((i : ℕ) → f i ≤ toNat (t i) * m) → sumBelow n f ≤ countBelow n t * m
+unfolding sumBelow countBelow
+sum-counted f t m zero h = omega arith
+sum-counted f t m (suc n) h = rw (add-mul (countBelow n t) (toNat (t n)) m) (add-le-add (sum-counted f t m n h) (h n))
+
 -- ---- the first
 
 -- no number below n passes the test; what a loop that looks for the first keeps
@@ -154,17 +200,13 @@ first-le (suc n) f = go (f 0) (first-le n (λ i. f (suc i)))
     go true h = omega arith
     go false h = omega arith
 
--- none before the first passes
-pub first-before : (n : ℕ) (f : ℕ → Bool) (i : ℕ) → i < firstBelow n f → f i ≡ false
+pub first-before : (n i : ℕ) (f : ℕ → Bool) → i < firstBelow n f → f i ≡ false
 unfolding firstBelow
-first-before zero f i l = absurd (omega arith)
-first-before (suc n) f zero l = go (f 0) refl l
+first-before zero i f l = absurd (omega arith)
+first-before (suc n) i f l = go i (f 0) refl l (λ j b. first-before n j (λ i. f (suc i)) b)
   where
-    go : (t : Bool) → f 0 ≡ t → 0 < oneMore t (firstBelow n (λ j. f (suc j))) → f 0 ≡ false
-    go true e l = absurd (omega arith)
-    go false e l = e
-first-before (suc n) f (suc i) l = go (f 0) l (λ k. first-before n (λ j. f (suc j)) i k)
-  where
-    go : (t : Bool) → suc i < oneMore t (firstBelow n (λ j. f (suc j))) → (i < firstBelow n (λ j. f (suc j)) → f (suc i) ≡ false) → f (suc i) ≡ false
-    go true l r = absurd (omega arith)
-    go false l r = r (omega arith)
+    go : (i : ℕ) (t : Bool) → f 0 ≡ t → i < oneMore t (firstBelow n (λ i. f (suc i)))
+        → ((j : ℕ) → j < firstBelow n (λ i. f (suc i)) → f (suc j) ≡ false) → f i ≡ false
+    go i true e l r = absurd (omega arith)
+    go zero false e l r = e
+    go (suc i) false e l r = r i (omega arith)

@@ -2,3 +2,4 @@ pub mod Below
 pub mod MulDivLaws
 pub mod WideLaws
 pub mod BoolArrayLaws
+pub mod OutcomeLaws

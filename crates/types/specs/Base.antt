@@ -29,6 +29,20 @@ abbrev pub mapOutcome : {A B : Type 0} → (A → B) → Outcome A → Outcome B
 mapOutcome f (refused n) = refused n
 mapOutcome f (accepted a) = accepted (f a)
 
+-- what comes behind an outcome: its values go on, a refusal stands
+abbrev pub andThen : {A B : Type 0} → Outcome A → (A → Outcome B) → Outcome B
+andThen (refused n) f = refused n
+andThen (accepted a) f = f a
+
+abbrev pub isAccepted : {A : Type 0} → Outcome A → Bool
+isAccepted (refused n) = false
+isAccepted (accepted a) = true
+
+-- a number that is accepted, else 0
+abbrev pub orZero : Outcome ℕ → ℕ
+orZero (refused n) = 0
+orZero (accepted a) = a
+
 -- what stands after a call: a refused call leaves what it found
 abbrev pub after : {A B : Type 0} → Outcome A → (A → B) → B → B
 after (refused n) f found = found
