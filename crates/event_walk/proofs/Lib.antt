@@ -1,0 +1,5 @@
+pub mod WalkLaws
+pub mod NewestLaws
+pub mod RingWalk
+pub mod SpanLaws
+pub mod AmountLaws
