@@ -1,1 +1,3 @@
 pub mod AdvanceLaws
+pub mod RewardLaws
+pub mod PaidLaws
