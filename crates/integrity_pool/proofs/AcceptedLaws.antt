@@ -1,12 +1,13 @@
 -- What an accepted call tells: each test on the way to it passed. Assumes nothing.
-use mathlib.Core.Path.{_≡_, refl}
-use mathlib.Core.Bool.{Bool, true, false, not}
+use mathlib.Core.Path.{_≡_}
+use mathlib.Core.Bool.{true, not}
 use mathlib.Core.List.{List}
-use Prim.Native.Nat.{ℕ, _+_, _-_, _/_, _≤_, _<_}
+use Prim.Native.Nat.{ℕ, _+_, _/_, _≤_, _<_}
 use native.Mathlib.Omega.{arith}
 use lib.Dec.{leb, ltb, eqb}
 use borrow.Author.Tests.{leb-false, ltb-false, eqb-true, eqb-false, not-false}
-use Rattle.types.specs.Base.{word, half, if_then_else_, Outcome, refused, accepted, mapOutcome, allBelow}
+use Rattle.types.specs.Base.{word, half, Outcome, accepted, allBelow}
+use Rattle.types.proofs.OutcomeLaws.{test-passed, map-accepted}
 use Rattle.publisher_caps.specs.Message.{timeOf, messageHolds}
 use Rattle.event.specs.Adjust.{Adjustment, adjustOf}
 use Rattle.event.proofs.AdjustLaws.{adjust-keeps}
@@ -16,16 +17,6 @@ use Rattle.image.proofs.SeatLaws.{sized-says, checked-says}
 use Rattle.advance_plan.specs.declared.Given.{Given}
 use Rattle.advance_plan.specs.Advance.{Advanced, seatCap, seatRolls, eligibleSum, passedOf, adjustmentOf, answerWith, advanceOf}
 use Rattle.integrity_pool.specs.Calls.{freshCall, checkedThen, advanceCall}
-
--- a test on the way was passed, and what comes after it accepts
-pub test-passed : {A : Type 0} (t : Bool) (k : ℕ) (rest : Outcome A) (a : A) → (if t then refused k else rest) ≡ accepted a → (t ≡ false) × (rest ≡ accepted a)
-test-passed true k rest a e = absurd (let z : _≡_ {A = ℕ} 0 1 = cc in omega arith)
-test-passed false k rest a e = (refl, e)
-
--- what was mapped was accepted
-pub map-accepted : {A B : Type 0} (f : A → B) (o : Outcome A) (b : B) → mapOutcome f o ≡ accepted b → (a : A) × ((o ≡ accepted a) × (b ≡ f a))
-map-accepted f (refused n) b e = absurd (let z : _≡_ {A = ℕ} 0 1 = cc in omega arith)
-map-accepted f (accepted a) b e = (a, (refl, cc))
 
 module _ (P E : ℕ) (img : List ℕ) where
   pub fresh-accepted : (given : ℕ) → freshCall P E img given ≡ accepted tt → Sized img P E × (1 ≤ given)

@@ -2,12 +2,13 @@
 use mathlib.Core.Path.{_≡_, ap, sym, _∙_}
 use mathlib.Core.Bool.{Bool, true, false, not}
 use mathlib.Core.List.{List}
-use Prim.Native.Nat.{ℕ, _≤_, _<_, _-_}
+use Prim.Native.Nat.{ℕ, _≤_, _<_}
 use native.Mathlib.Omega.{arith}
 use lib.Dec.{eqb, ltb}
 use borrow.Author.Tests.{lt-ltb, le-ltb, eq-eqb, ne-eqb}
 use Rattle.types.specs.Base.{if_then_else_, Outcome, refused, accepted, after}
 use Rattle.types.specs.Refusals.{invalidImage, invalidEpoch, invalidPublisherCaps, invalidY}
+use Rattle.types.proofs.OutcomeLaws.{test-passed}
 use Rattle.publisher_caps.specs.Message.{messageHolds}
 use Rattle.publisher_caps.proofs.MessageLaws.{holds-whole}
 use Rattle.image.specs.Layout.{read, image}
@@ -16,7 +17,7 @@ use Rattle.advance_plan.specs.declared.Given.{Given}
 use Rattle.advance_plan.specs.Advance.{Advanced, advanceOf, forecastOf, advancedWords}
 use Rattle.advance_plan.specs.Plan.{Ready}
 use Rattle.pool.specs.Answers.{imageAfter}
-use Rattle.integrity_pool.proofs.AcceptedLaws.{test-passed, then-accepted}
+use Rattle.integrity_pool.proofs.AcceptedLaws.{then-accepted}
 use Rattle.integrity_pool.specs.Calls.{freshCall, freshImage, checkedThen, passed, advanceCall, advanceImage, forecastCall}
 
 -- ---- fresh

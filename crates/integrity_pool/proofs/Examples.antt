@@ -73,7 +73,7 @@ places-in-order = refl
 -- ---- words by name, and messages
 
 -- a pool's words with these set
-abbrev setTo : List (Field × ℕ) → Words → Words
+abbrev pub setTo : List (Field × ℕ) → Words → Words
 setTo [] w = w
 setTo (x ∷ more) w = put 2 4 (setTo more w) (x .0) (x .1)
 

@@ -11,6 +11,8 @@ use types::refusals::INVALID_IMAGE;
 use types::refusals::INVALID_PUBLISHER_CAPS;
 use types::refusals::INVALID_Y;
 
+pub mod payment;
+
 // The highest y that initialize_pool and update_y take.
 const MAX_Y: u64 = 10_000;
 

@@ -1,43 +1,32 @@
+-- `integrity_pool::advance` meets its contract. Assumes nothing.
 use mathlib.Core.Path.{ap, sym, _∙_}
 use Rattle.integrity_pool.specs.Calls.{checksIs}
 use Rattle.integrity_pool.proofs.CallLaws.{ready, advance-refused, advance-on}
 use borrow.Author.Needs.{needs}
 use Rattle.integrity_pool.proofs.advance.Statement.{statement}
 use Rattle.integrity_pool.proofs.advance.Tie as tie
-use Rattle.integrity_pool.proofs.advance.Reads as reads
-use Rattle.integrity_pool.proofs.advance.Lts as lts
-use Rattle.integrity_pool.proofs.check_inputs.Reads as check-inputs-reads
-use Rattle.pool.proofs.advance.advance.Reads as advance-reads
 
--- src/lib.rt:72:9
 check-inputs-requires : tie.Need-check-inputs-requires
 check-inputs-requires c κs = search needs
 
--- src/lib.rt:74:25
 enum-known-checks : tie.Need-enum-known-checks
 enum-known-checks c = search needs
 
--- src/lib.rt:75:50
 enum-told : tie.Need-enum-told
 enum-told c = search needs
 
--- src/lib.rt:75:27
 advance-requires : tie.Need-advance-requires
 advance-requires c κs = ready _ _ _ _ (c .before .before .before .before .before .before .before .args .given) (ap checksIs (sym (c .before .enum-told .given .1)) ∙ c .before .before .before .check-inputs .ensures)
 
--- src/lib.rt:69:1
 same-length : tie.Need-same-length
 same-length c = search needs
 
--- src/lib.rt:69:1
 returns : tie.Need-returns
 returns c = advance-refused _ _ _ _ _ _ (ap checksIs (sym (c .before .checks .given .1)) ∙ c .before .before .before .check-inputs .ensures)
 
--- src/lib.rt:69:1
 same-length-2 : tie.Need-same-length-2
 same-length-2 c = search needs
 
--- src/lib.rt:69:1
 returns-2 : tie.Need-returns-2
 returns-2 c = advance-on _ _ _ _ _ (ap checksIs (sym (c .before .before .before .before .enum-told .given .1)) ∙ c .before .before .before .before .before .before .check-inputs .ensures) _ _ (c .before .before .advance .ensures .0) (c .before .before .advance .ensures .1)
 
