@@ -1,6 +1,6 @@
--- Laws of the calls: the table of kinds against the fields of each call, and what a name is not. Assumes nothing.
+-- Laws of the calls: the table of kinds against the fields of each call, and the names. Assumes nothing.
 use mathlib.Core.Path.{_≡_, refl, ap, _∙_}
-use mathlib.Core.Bool.{Bool, true, false}
+use mathlib.Core.Bool.{true}
 use mathlib.Core.List.{List, [], _∷_, _++_}
 use Prim.Native.Nat.{ℕ, zero, suc, _+_, _*_, _<_}
 use native.Mathlib.Omega.{arith}
@@ -8,8 +8,9 @@ use lib.Dec.{eqb}
 use lib.ListN.{length, getD, List·getD-append}
 use lib.Seq.{getD-append-add}
 use borrow.Author.Tests.{eq-eqb, ne-eqb}
-use Rattle.journal.specs.Bytes.{same}
-use Rattle.journal.specs.Calls.{placeOf, none, w, fields, kindOf, wholeOf}
+use Rattle.text.specs.Items.{items, placeOf}
+use Rattle.text.proofs.ItemsLaws.{place-within}
+use Rattle.journal.specs.Calls.{names, callCount, callOf, none, w, fields, kindOf, wholeOf}
 
 -- a row of n kinds
 abbrev row : ℕ → List ℕ → List ℕ
@@ -49,7 +50,7 @@ rows-at (x ∷ ls) (suc call) k h l =
     let e : suc call * 10 + k ≡ length (row 10 x) + (call * 10 + k) = omega arith in
     ap (λ (i : ℕ). getD (row 10 x ++ rows ls) i 0) e ∙ getD-append-add (row 10 x) (rows ls) (call * 10 + k) 0 ∙ rows-at ls call k (omega arith) l
 
-pub kind-at : (call k : ℕ) → call < 10 → k < 10 → getD table (call * 10 + k) 0 ≡ kindOf call k
+pub kind-at : (call k : ℕ) → call < callCount → k < 10 → getD table (call * 10 + k) 0 ≡ kindOf call k
 unfolding kindOf
 kind-at call k h l = rows-at fields call k h l
 
@@ -62,15 +63,15 @@ module _ (call k next : ℕ) (is : next ≡ kindOf call k) where
   unfolding wholeOf
   whole-words e = rw (← is, ne-eqb _ _ e)
 
-pub no-name : (s : List ℕ) (k : ℕ) → 0 ≡ placeOf s [] k
-unfolding placeOf
-no-name s k = refl
+-- the names as the bytes of one list, a space between two
+abbrev spaced : List (List ℕ) → List ℕ
+spaced [] = []
+spaced (x ∷ []) = x
+spaced (x ∷ y ∷ xs) = x ++ (32 ∷ spaced (y ∷ xs))
 
-module _ (s x : List ℕ) (xs : List (List ℕ)) (k : ℕ) where
-  pub is-named : (r : Bool) → r ≡ same s x → r ≡ true → k ≡ placeOf s (x ∷ xs) k
-  unfolding placeOf
-  is-named r e t = rw (← e, t)
+names-spaced : items 32 (spaced names) ≡ names
+unfolding items
+names-spaced = refl
 
-  pub not-named : (r : Bool) → r ≡ same s x → r ≡ false → placeOf s xs (suc k) ≡ placeOf s (x ∷ xs) k
-  unfolding placeOf
-  not-named r e t = rw (← e, t)
+pub call-at : (s : List ℕ) (r : ℕ) → r ≡ placeOf s (items 32 (spaced names)) 1 → (r ≡ callOf s) × (r < callCount)
+call-at s r h = let q = rw names-spaced at h in (q, omega (arith, place-within s names 1 (omega arith)))

@@ -6,19 +6,31 @@ use Prim.Native.Nat.{ℕ, suc, _+_, _<_, _≤_}
 use native.Mathlib.Nat.{zero-add}
 use native.Mathlib.Numerals.{add-one}
 use native.Mathlib.Omega.{arith}
+use lib.Dec.{eqb}
 use lib.ListN.{length, getD, set}
 use lib.Seq.{paste, paste-suc}
-use borrow.Author.Tests.{eq-eqb, ne-eqb, le-leb, lt-leb}
+use borrow.Author.Tests.{eq-eqb, ne-eqb, eqb-true, le-leb, lt-leb, le-ltb, lt-ltb}
 use Rattle.text.specs.declared.Number.{Number}
 use Rattle.text.specs.declared.Number.the-variants.{Value, NoDigits, NotDigit, TooLarge}
 use Rattle.text.specs.declared.BytesRead.{BytesRead}
 use Rattle.text.specs.declared.BytesRead.the-variants.{Count, NotBytes, TooMany}
+use Rattle.text.specs.declared.KeyRead.{KeyRead}
+use Rattle.text.specs.declared.KeyRead.the-variants.{Is, NotKey}
+use Rattle.text.specs.declared.items.WordsRead.{WordsRead}
+use Rattle.text.specs.declared.items.WordsRead.the-variants.{Words, NotWord, LargeWord, ManyWords}
+use Rattle.text.specs.Decimal.{numberOf}
 use Rattle.text.specs.Hex.{bytesOf, spelled}
+use Rattle.text.specs.Key.{keyOf}
+use Rattle.text.specs.Items.{same, items}
+use Rattle.text.specs.Words.{dash, comma, wordsOf, numbers, laid, listOf, listed}
 use Rattle.text.proofs.HexLaws.{bytes-count}
-use Rattle.journal.specs.Bytes.{same}
-use Rattle.journal.specs.Calls.{wholeOf}
-use Rattle.journal.specs.Fields.{whatOf, put, dash, MessageRead, PathRead, unendedOf, cutOf}
+use Rattle.text.proofs.WordsLaws.{words-within, list-within}
+use Rattle.journal.specs.Held.{Parted}
+use Rattle.journal.specs.Calls.{n, o, wholeOf}
+use Rattle.journal.specs.Calls as calls
+use Rattle.journal.specs.Fields.{whatOf, put, whatKey, putKey, noneName, isNone, whatValue, putValue, MessageRead, PathRead, countWords, whatWords, partOf, parted, ListRead, roomOf, unendedOf, cutOf}
 
+-- a number that is read as r
 module _ (r x : Number) (is : r ≡ x) (k : ℕ) (l : List ℕ) where
   pub number-value : (n : ℕ) → r ≡ Value n → (0 ≡ whatOf x) × (set l k n ≡ put x k l)
   number-value n e = rw (← is, e) (refl, refl)
@@ -31,6 +43,41 @@ module _ (r x : Number) (is : r ≡ x) (k : ℕ) (l : List ℕ) where
 
   pub number-not : r ≡ NotDigit → (4 ≡ whatOf x) × (l ≡ put x k l)
   number-not e = rw (← is, e) (refl, refl)
+
+-- a key that is read as r
+module _ (r x : KeyRead) (is : r ≡ x) (k : ℕ) (l : List ℕ) where
+  pub key-is : (a b c d : ℕ) → r ≡ Is a b c d → (0 ≡ whatKey x) × (putKey (Is a b c d) k l ≡ putKey x k l)
+  key-is a b c d e = rw (← is, e) (refl, refl)
+
+  pub key-not : r ≡ NotKey → (16 ≡ whatKey x) × (l ≡ putKey x k l)
+  key-not e = rw (← is, e) (refl, refl)
+
+module _ (kind : ℕ) (s : List ℕ) where
+  pub none-not : (kind ≡ o → ⊥) → false ≡ isNone kind s
+  unfolding isNone
+  none-not n = rw (ne-eqb _ _ n)
+
+  pub none-same : (r : Bool) → kind ≡ o → r ≡ same s noneName → r ≡ isNone kind s
+  unfolding isNone
+  none-same r e is = rw (eq-eqb _ _ e) is
+
+  module _ (k : ℕ) (l : List ℕ) where
+    abbrev Told : (what : ℕ) → List ℕ → Type 0
+    Told what new = (what ≡ whatValue kind s) × (new ≡ putValue kind s k l)
+
+    pub value-number : (what : ℕ) (new : List ℕ) → kind ≡ n → (what ≡ whatOf (numberOf s)) × (new ≡ put (numberOf s) k l) → Told what new
+    unfolding whatValue putValue
+    value-number what new e is = rw (eq-eqb _ _ e) is
+
+    pub value-none : (r : Bool) → (kind ≡ n → ⊥) → r ≡ isNone kind s → r ≡ true → Told 0 (set l k 0)
+    unfolding whatValue putValue
+    value-none r m is t = rw (ne-eqb _ _ m, ← is, t) (refl, refl)
+
+    pub value-key :
+        (r : Bool) (what : ℕ) (new : List ℕ) → (kind ≡ n → ⊥) → r ≡ isNone kind s → r ≡ false →
+        (what ≡ whatKey (keyOf s)) × (new ≡ putKey (keyOf s) k l) → Told what new
+    unfolding whatValue putValue
+    value-key r what new m is t q = rw (ne-eqb _ _ m, ← is, t) q
 
 module _ (s old : List ℕ) (d : Bool) (is : d ≡ same s dash) where
   pub message-dash : d ≡ true → MessageRead s old old 0 0
@@ -69,11 +116,68 @@ module _ (s old : List ℕ) where
   path-long h =
       let e = lt-leb (length s) (length old) h in record { within = omega arith; counted = rw e; judged = rw e; kept = rw e }
 
-  pub path-read : (new : List ℕ) (i : ℕ) → length s ≤ length old → length s ≤ i → i ≤ length s → new ≡ paste old 0 s i → PathRead s old new (length s) 0
+  pub path-read :
+      (new : List ℕ) (i : ℕ) → length s ≤ length old → length s ≤ i → i ≤ length s → new ≡ paste old 0 s i → PathRead s old new (length s) 0
   path-read new i h low high p =
       let e = le-leb (length s) (length old) h in
       let q : i ≡ length s = omega arith in
       record { within = h; counted = rw e; judged = rw e; kept = rw e (rw q at p) }
+
+-- a count that is within the room
+within-room : (r : WordsRead) (room : ℕ) → ((n : ℕ) → r ≡ Words n → n ≤ room) → countWords r ≤ room
+within-room (Words n) room h = h n refl
+within-room NotWord room h = omega arith
+within-room LargeWord room h = omega arith
+within-room ManyWords room h = omega arith
+
+some-words : (r : WordsRead) → ((n : ℕ) → r ≡ Words n → 0 < n) → whatWords r ≡ 0 → 0 < countWords r
+some-words (Words n) h e = h n refl
+some-words NotWord h e = absurd (omega arith)
+some-words LargeWord h e = absurd (omega arith)
+some-words ManyWords h e = absurd (omega arith)
+
+module _ (s old new : List ℕ) (r : WordsRead) (count what : ℕ) (told : (count ≡ countWords r) × (what ≡ whatWords r)) where
+  pub list-whole : (whole : Bool) → whole ≡ true → r ≡ listOf s (length old) → new ≡ listed s old → ListRead whole s old new count what
+  unfolding partOf parted
+  list-whole whole t e k =
+      record {
+        within = rw (told .0) (within-room r (length old) (λ n q. list-within s (length old) n (sym e ∙ q)));
+        grows = λ f z. let b : _≡_ {A = ℕ} 0 1 = cc in absurd (omega arith);
+        counted = rw (t, ← e) (told .0);
+        judged = rw (t, ← e) (told .1);
+        kept = rw t k;
+      }
+
+  pub list-part :
+      (whole : Bool) → whole ≡ false → r ≡ wordsOf (items comma s) (length old) 0 → new ≡ laid (numbers (items comma s)) 0 old →
+      ListRead whole s old new count what
+  unfolding partOf parted
+  list-part whole t e k =
+      record {
+        within = rw (told .0) (within-room r (length old) (λ n q. words-within comma s (length old) n (sym e ∙ q) .1));
+        grows = λ f z. rw (told .0) (some-words r (λ n q. words-within comma s (length old) n (sym e ∙ q) .0) (sym (told .1) ∙ z));
+        counted = rw (t, ← e) (told .0);
+        judged = rw (t, ← e) (told .1);
+        kept = rw t k;
+      }
+
+-- a part of a list: more follows where nothing is wrong, or never
+module _ (at end count input room : ℕ) (ordered : at ≤ end) (within : end ≤ input) (fits : count ≤ room) where
+  pub part-more : (what : ℕ) → (what ≡ 0 → 0 < count) → Parted at end count (eqb what 0) input room
+  part-more what g = record { ordered = ordered; within = within; fits = fits; grows = λ e. g (eqb-true _ _ e) }
+
+  pub part-last : Parted at end count false input room
+  part-last = record { ordered = ordered; within = within; fits = fits; grows = λ e. let z : _≡_ {A = ℕ} 0 1 = cc in absurd (omega arith) }
+
+module _ (kind left : ℕ) where
+  pub room-left : (kind ≡ calls.l → ⊥) → left ≡ roomOf kind left
+  room-left n = rw (ne-eqb _ _ n)
+
+  pub room-own : kind ≡ calls.l → 2313 < left → 2313 ≡ roomOf kind left
+  room-own e h = rw (eq-eqb _ _ e, lt-ltb _ _ h)
+
+  pub room-less : kind ≡ calls.l → left ≤ 2313 → left ≡ roomOf kind left
+  room-less e h = rw (eq-eqb _ _ e, le-ltb _ _ h)
 
 module _ (stop : ℕ) where
   pub unended-long : stop ≡ 258 → 10 ≡ unendedOf stop

@@ -8,10 +8,3 @@ use lib.Dec.{eqb}
 unfoldable pub has : ℕ → List ℕ → Bool
 has b [] = false
 has b (x ∷ s) = cond (eqb x b) true (has b s)
-
--- whether two lists are the same
-unfoldable pub same : List ℕ → List ℕ → Bool
-same [] [] = true
-same [] (y ∷ t) = false
-same (x ∷ s) [] = false
-same (x ∷ s) (y ∷ t) = cond (eqb x y) (same s t) false

@@ -1,18 +1,26 @@
 -- Fields as they are read: what is wrong with one, by number, and what is stored of it. Assumes nothing.
 use mathlib.Core.Path.{_≡_}
-use mathlib.Core.Bool.{cond}
+use mathlib.Core.Bool.{Bool, false, cond}
 use mathlib.Core.List.{List, [], _∷_}
-use Prim.Native.Nat.{ℕ, _≤_}
-use lib.Dec.{eqb, leb}
+use Prim.Native.Nat.{ℕ, _+_, _*_, _≤_, _<_}
+use lib.Dec.{eqb, ltb, leb}
 use lib.ListN.{length, set}
 use lib.Seq.{paste}
 use Rattle.text.specs.declared.Number.{Number}
 use Rattle.text.specs.declared.Number.the-variants.{Value, NoDigits, NotDigit, TooLarge}
 use Rattle.text.specs.declared.BytesRead.{BytesRead}
 use Rattle.text.specs.declared.BytesRead.the-variants.{Count, NotBytes, TooMany}
+use Rattle.text.specs.declared.KeyRead.{KeyRead}
+use Rattle.text.specs.declared.KeyRead.the-variants.{Is, NotKey}
+use Rattle.text.specs.declared.items.WordsRead.{WordsRead}
+use Rattle.text.specs.declared.items.WordsRead.the-variants.{Words, NotWord, LargeWord, ManyWords}
+use Rattle.text.specs.Decimal.{numberOf}
 use Rattle.text.specs.Hex.{bytesOf, spelled}
-use Rattle.journal.specs.Bytes.{same}
+use Rattle.text.specs.Key.{keyOf}
+use Rattle.text.specs.Items.{same, items}
+use Rattle.text.specs.Words.{dash, comma, wordsOf, numbers, laid, listOf, listed}
 use Rattle.journal.specs.Calls.{wholeOf}
+use Rattle.journal.specs.Calls as calls
 
 -- what is wrong, 0 being nothing
 abbrev pub tooFew : ℕ
@@ -30,6 +38,9 @@ notMessage = 6
 abbrev pub longMessage : ℕ
 longMessage = 7
 
+abbrev pub manyWords : ℕ
+manyWords = 8
+
 abbrev pub longPath : ℕ
 longPath = 9
 
@@ -38,6 +49,9 @@ longField = 10
 
 abbrev pub noInput : ℕ
 noInput = 11
+
+abbrev pub notKey : ℕ
+notKey = 16
 
 -- a number
 abbrev pub whatOf : Number → ℕ
@@ -53,6 +67,31 @@ put NoDigits k l = l
 put NotDigit k l = l
 put TooLarge k l = l
 
+-- a key
+abbrev pub whatKey : KeyRead → ℕ
+whatKey (Is a b c d) = 0
+whatKey NotKey = notKey
+
+-- a list in which word k says that there is a key, and its words stand from 10 + k * 4 on
+abbrev pub putKey : KeyRead → (k : ℕ) → List ℕ → List ℕ
+putKey (Is a b c d) k l =
+    set (set (set (set (set l k 1) (10 + k * 4) a) (10 + k * 4 + 1) b) (10 + k * 4 + 2) c) (10 + k * 4 + 3) d
+putKey NotKey k l = l
+
+-- `none` in place of a key
+abbrev pub noneName : List ℕ
+noneName = 110 ∷ 111 ∷ 110 ∷ 101 ∷ []
+
+unfoldable pub isNone : (kind : ℕ) → List ℕ → Bool
+isNone kind s = cond (eqb kind calls.o) (same s noneName) false
+
+-- a field of one value: a number, a key, or a key or none, which is 0
+unfoldable pub whatValue : (kind : ℕ) → List ℕ → ℕ
+whatValue kind s = cond (eqb kind calls.n) (whatOf (numberOf s)) (cond (isNone kind s) 0 (whatKey (keyOf s)))
+
+unfoldable pub putValue : (kind : ℕ) → List ℕ → (k : ℕ) → List ℕ → List ℕ
+putValue kind s k l = cond (eqb kind calls.n) (put (numberOf s) k l) (cond (isNone kind s) (set l k 0) (putKey (keyOf s) k l))
+
 -- a message: how many bytes it has, and what is wrong; `-` is the empty one
 abbrev pub countIn : BytesRead → ℕ
 countIn (Count n) = n
@@ -63,9 +102,6 @@ abbrev pub whatIn : BytesRead → ℕ
 whatIn (Count n) = 0
 whatIn NotBytes = notMessage
 whatIn TooMany = longMessage
-
-abbrev pub dash : List ℕ
-dash = 45 ∷ []
 
 pub record MessageRead (s old new : List ℕ) (count what : ℕ) : Type 0 where
   pub within : count ≤ length old
@@ -79,6 +115,37 @@ pub record PathRead (s old new : List ℕ) (count what : ℕ) : Type 0 where
   pub counted : count ≡ cond (leb (length s) (length old)) (length s) 0
   pub judged : what ≡ cond (leb (length s) (length old)) 0 longPath
   pub kept : new ≡ cond (leb (length s) (length old)) (paste old 0 s (length s)) old
+
+-- the words of a list: how many they are, and what is wrong
+abbrev pub countWords : WordsRead → ℕ
+countWords (Words n) = n
+countWords NotWord = 0
+countWords LargeWord = 0
+countWords ManyWords = 0
+
+abbrev pub whatWords : WordsRead → ℕ
+whatWords (Words n) = 0
+whatWords NotWord = notNumber
+whatWords LargeWord = largeNumber
+whatWords ManyWords = manyWords
+
+-- a list, or a part of one, which has a word at least
+unfoldable pub partOf : (whole : Bool) → List ℕ → (room : ℕ) → WordsRead
+partOf whole s room = cond whole (listOf s room) (wordsOf (items comma s) room 0)
+
+unfoldable pub parted : (whole : Bool) → List ℕ → List ℕ → List ℕ
+parted whole s out = cond whole (listed s out) (laid (numbers (items comma s)) 0 out)
+
+pub record ListRead (whole : Bool) (s old new : List ℕ) (count what : ℕ) : Type 0 where
+  pub within : count ≤ length old
+  pub grows : whole ≡ false → what ≡ 0 → 0 < count
+  pub counted : count ≡ countWords (partOf whole s (length old))
+  pub judged : what ≡ whatWords (partOf whole s (length old))
+  pub kept : new ≡ parted whole s old
+
+-- the room for a list: 257 positions of nine words for positions, what is left for an image
+abbrev pub roomOf : (kind left : ℕ) → ℕ
+roomOf kind left = cond (eqb kind calls.l) (cond (ltb 2313 left) 2313 left) left
 
 -- an item that no byte ended: the buffer is full (258), a read failed (257), or the input ended
 abbrev pub unendedOf : (stop : ℕ) → ℕ

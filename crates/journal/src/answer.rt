@@ -87,7 +87,8 @@ fn reason(out: &mut [u8], pen: Pen, what: u8) -> Pen
         the file can't be read\n\
         the file is too long\n\
         the file is not whole words\n\
-        the file can't be written\n";
+        the file can't be written\n\
+        not a key\n";
     let from = row_of(reasons, what);
     row(out, pen, reasons, from)
 }

@@ -3,12 +3,16 @@ ghost use mathlib.Core.Path.{_≡_};
 ghost use Prim.Native.Nat.{_≤_, _<_};
 ghost use lib.ListN.{length};
 ghost use Rattle.text.specs.Decimal.{numberOf};
-ghost use Rattle.journal.specs.Held.{Unread};
-ghost use Rattle.journal.specs.Fields.{whatOf, put, MessageRead, PathRead, unendedOf};
+ghost use Rattle.text.specs.Key.{keyOf};
+ghost use Rattle.journal.specs.Held.{Unread, Parted};
+ghost use Rattle.journal.specs.Fields.{whatOf, put, whatKey, putKey, isNone, whatValue, putValue, MessageRead, PathRead, countWords, whatWords, ListRead, roomOf, unendedOf};
 use crate::calls;
 use crate::input;
 use text::BytesRead;
+use text::KeyRead;
 use text::Number;
+use text::items;
+use text::items::WordsRead;
 
 // What is wrong with a line, by the rows of the table in `answer`.
 pub const UNKNOWN_CALL: u8 = 1;
@@ -41,9 +45,21 @@ pub const NOT_WORDS: u8 = 14;
 
 pub const CANNOT_WRITE: u8 = 15;
 
-// How many bytes of a field were stored, and what was wrong, or 0.
+pub const NOT_KEY: u8 = 16;
+
+// The words of a position list: 257 positions, one more than the library accepts.
+pub const POSITIONS_ROOM: usize = 2313;
+
+// How many bytes or words of a field were stored, and what was wrong, or 0.
 pub struct Stored {
     pub count: usize,
+    pub what: u8,
+}
+
+// A line's numbers and keys with one field more, and what was wrong, or 0. Word k is the number of field k. Of a key it says whether there is
+// one, and the key's words stand from 10 + 4 * k on.
+pub struct Values {
+    pub args: [u64; 50],
     pub what: u8,
 }
 
@@ -56,27 +72,83 @@ pub struct Listed {
     pub what: u8,
 }
 
-// A number, as the word of field k.
-pub fn number(s: &[u8], args: &mut [u64; 10], k: usize) -> u8
+// A number.
+fn number(s: &[u8], mut args: [u64; 50], k: usize) -> Values
     requires { ⌜ k < 10 ⌝ }
-    ensures { λ r. ⌜ (r ≡ whatOf (numberOf (now (s .entry)))) × (now (args .exit) ≡ put (numberOf (now (s .entry))) k (now (args .entry))) ⌝ }
+    ensures { λ r. ⌜ (r .what ≡ whatOf (numberOf (now (s .entry)))) × (r .args ≡ put (numberOf (now (s .entry))) k args) ⌝ }
 {
     match text::decimal(s) {
         Number::Value(n) => {
             args[k] = n;
-            0
+            Values { args, what: 0 }
         }
-        Number::TooLarge => LARGE_NUMBER,
-        Number::NoDigits => NOT_NUMBER,
-        Number::NotDigit => NOT_NUMBER,
+        Number::TooLarge => Values {
+            args,
+            what: LARGE_NUMBER,
+        },
+        Number::NoDigits => Values {
+            args,
+            what: NOT_NUMBER,
+        },
+        Number::NotDigit => Values {
+            args,
+            what: NOT_NUMBER,
+        },
     }
+}
+
+// A key.
+fn key(s: &[u8], mut args: [u64; 50], k: usize) -> Values
+    requires { ⌜ k < 10 ⌝ }
+    ensures { λ r. ⌜ (r .what ≡ whatKey (keyOf (now (s .entry)))) × (r .args ≡ putKey (keyOf (now (s .entry))) k args) ⌝ }
+{
+    match text::key(s) {
+        KeyRead::Is(a, b, c, d) => {
+            let i = 10 + k * 4;
+            args[k] = 1;
+            args[i] = a;
+            args[i + 1] = b;
+            args[i + 2] = c;
+            args[i + 3] = d;
+            Values { args, what: 0 }
+        }
+        KeyRead::NotKey => Values {
+            args,
+            what: NOT_KEY,
+        },
+    }
+}
+
+// Whether a field says that there is no key.
+fn is_none(kind: u8, s: &[u8]) -> bool
+    ensures { λ r. ⌜ r ≡ isNone kind (now (s .entry)) ⌝ }
+{
+    if kind != calls::KEY_OR_NONE {
+        return false;
+    }
+    items::same(s, b"none")
+}
+
+// A field of one value: a number, a key, or a key or none.
+pub fn value(kind: u8, s: &[u8], mut args: [u64; 50], k: usize) -> Values
+    requires { ⌜ k < 10 ⌝ }
+    ensures { λ r. ⌜ (r .what ≡ whatValue kind (now (s .entry))) × (r .args ≡ putValue kind (now (s .entry)) k args) ⌝ }
+{
+    if kind == calls::NUMBER {
+        return number(s, args, k);
+    }
+    if is_none(kind, s) {
+        args[k] = 0;
+        return Values { args, what: 0 };
+    }
+    key(s, args, k)
 }
 
 // A message in hexadecimal digits; `-` is the empty one.
 pub fn message(s: &[u8], bytes: &mut [u8]) -> Stored
     ensures { λ r. ⌜ MessageRead (now (s .entry)) (now (bytes .entry)) (now (bytes .exit)) (r .count) (r .what) ⌝ }
 {
-    if calls::same(s, b"-") {
+    if items::same(s, b"-") {
         return Stored { count: 0, what: 0 };
     }
     match text::bytes(s, bytes) {
@@ -124,105 +196,122 @@ pub fn unended(stop: usize) -> u8
     0
 }
 
-// A word of a list that has `count` before it.
-fn word(s: &[u8], out: &mut [u64], count: usize) -> u8
-    requires { ⌜ count < length (now out) ⌝ }
-    ensures { λ r. ⌜ (r ≡ whatOf (numberOf (now (s .entry)))) × (now (out .exit) ≡ put (numberOf (now (s .entry))) count (now (out .entry))) ⌝ }
+// What the words of a list came to.
+fn counted(read: WordsRead) -> Stored
+    ensures { λ r. ⌜ (r .count ≡ countWords read) × (r .what ≡ whatWords read) ⌝ }
 {
-    match text::decimal(s) {
-        Number::Value(n) => {
-            out[count] = n;
-            0
-        }
-        Number::TooLarge => LARGE_NUMBER,
-        Number::NoDigits => NOT_NUMBER,
-        Number::NotDigit => NOT_NUMBER,
+    match read {
+        WordsRead::Words(n) => Stored { count: n, what: 0 },
+        WordsRead::NotWord => Stored {
+            count: 0,
+            what: NOT_NUMBER,
+        },
+        WordsRead::LargeWord => Stored {
+            count: 0,
+            what: LARGE_NUMBER,
+        },
+        WordsRead::ManyWords => Stored {
+            count: 0,
+            what: MANY_WORDS,
+        },
     }
 }
 
-// A word of a list, where its item came whole.
-fn item_word(stop: usize, s: &[u8], out: &mut [u64], count: usize) -> u8
-    requires { ⌜ count < length (now out) ⌝ }
+// A word list, or a part of one: where it is whole, `-` is the empty one.
+fn list(s: &[u8], whole: bool, out: &mut [u64]) -> Stored
+    ensures { λ r. ⌜ ListRead whole (now (s .entry)) (now (out .entry)) (now (out .exit)) (r .count) (r .what) ⌝ }
 {
-    let what = unended(stop);
-    if what != 0 {
-        return what;
+    if whole {
+        return counted(items::list(s, out));
     }
-    word(s, out, count)
+    counted(items::words(s, out))
 }
 
-// The word that begins at `at`, of a list that has `count` before it.
-fn next_word(input: &mut [u8], at: usize, upto: usize, out: &mut [u64], count: usize) -> Listed
-    requires { ⌜ Unread at upto (length (now input)) × (count < length (now out)) ⌝ }
-    ensures { λ r. ⌜ Unread (r .at) (r .end) (length (now (input .entry))) × (r .count ≤ length (now (out .entry))) ⌝ }
+// How much of an item is a part: all of it, or what stands before the last comma where the buffer can't hold it.
+fn part_of(s: &[u8], stop: usize) -> usize
+    ensures { λ r. ⌜ r ≤ length (now (s .entry)) ⌝ }
 {
-    let it = input::next_item(&mut input[..], at, upto, true);
+    if stop == input::TOO_LONG {
+        return items::last(s, b',');
+    }
+    s.len()
+}
+
+// The part of a word list that begins at `at`.
+fn part(input: &mut [u8], at: usize, upto: usize, first: bool, out: &mut [u64]) -> Listed
+    requires { ⌜ Unread at upto (length (now input)) ⌝ }
+    ensures { λ r. ⌜ Parted (r .at) (r .end) (r .count) (r .more) (length (now (input .entry))) (length (now (out .entry))) ⌝ }
+{
+    let it = input::next_item(&mut input[..], at, upto);
     let from = it.from;
     let to = it.to;
     let end = it.end;
-    let stop = it.stop;
-    let what = item_word(stop, &input[from..to], out, count);
-    if stop == 44 {
+    let n = part_of(&input[from..to], it.stop);
+    if n < to - from {
+        let cut = from + n;
+        let got = list(&input[from..cut], false, out);
         return Listed {
-            count: count + 1,
-            at: to + 1,
+            count: got.count,
+            at: cut + 1,
             end,
-            more: what == 0,
-            what,
+            more: got.what == 0,
+            what: got.what,
         };
     }
+    let unended = unended(it.stop);
+    if unended != 0 {
+        return Listed {
+            count: 0,
+            at: to,
+            end,
+            more: false,
+            what: unended,
+        };
+    }
+    let got = list(&input[from..to], first, out);
     Listed {
-        count: count + 1,
+        count: got.count,
         at: to,
         end,
         more: false,
-        what,
+        what: got.what,
     }
 }
 
-// Decimal numbers joined by commas.
-fn joined(input: &mut [u8], start: usize, upto: usize, out: &mut [u64]) -> Listed
+// A word list, part by part.
+pub fn words(input: &mut [u8], start: usize, upto: usize, out: &mut [u64]) -> Listed
     requires { ⌜ Unread start upto (length (now input)) ⌝ }
     ensures { λ r. ⌜ Unread (r .at) (r .end) (length (now (input .entry))) × (r .count ≤ length (now (out .entry))) ⌝ }
 {
     let mut at = start;
     let mut end = upto;
     let mut count = 0;
-    while count < out.len() {
-        let next = next_word(&mut input[..], at, end, &mut out[..], count);
-        if !next.more {
-            return next;
-        }
+    loop {
+        let next = part(&mut input[..], at, end, count == 0, &mut out[count..]);
         at = next.at;
         end = next.end;
-        count += 1;
-    }
-    Listed {
-        count: 0,
-        at,
-        end,
-        more: false,
-        what: MANY_WORDS,
+        count += next.count;
+        if !next.more {
+            return Listed {
+                count,
+                at,
+                end,
+                more: false,
+                what: next.what,
+            };
+        }
     }
 }
 
-// A word list; `-` is the empty one.
-pub fn words(input: &mut [u8], at: usize, upto: usize, out: &mut [u64]) -> Listed
-    requires { ⌜ Unread at upto (length (now input)) ⌝ }
-    ensures { λ r. ⌜ Unread (r .at) (r .end) (length (now (input .entry))) × (r .count ≤ length (now (out .entry))) ⌝ }
+// The room for a list, of what is left: a position list has its own.
+pub fn room(kind: u8, left: usize) -> usize
+    ensures { λ r. ⌜ (r ≡ roomOf kind left) × (r ≤ left) ⌝ }
 {
-    let it = input::next_item(&mut input[..], at, upto, true);
-    let from = it.from;
-    let to = it.to;
-    let end = it.end;
-    if calls::same(&input[from..to], b"-") {
-        return Listed {
-            count: 0,
-            at: to,
-            end,
-            more: false,
-            what: unended(it.stop),
-        };
+    if kind != calls::POSITIONS {
+        return left;
     }
-    joined(input, from, end, out)
+    if POSITIONS_ROOM < left {
+        return POSITIONS_ROOM;
+    }
+    left
 }

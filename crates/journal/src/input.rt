@@ -74,8 +74,8 @@ pub fn has_line(s: &[u8]) -> bool
     false
 }
 
-// Where the first separator stands from `from` on, or `end`: a space, a line's end and, in a list, a comma.
-fn separator(s: &[u8], from: usize, end: usize, list: bool) -> usize
+// Where the first separator stands from `from` on, or `end`: a space or a line's end.
+fn separator(s: &[u8], from: usize, end: usize) -> usize
     requires { ⌜ Unread from end (length (now s)) ⌝ }
     ensures { λ r. ⌜ Unread from r end ⌝ }
 {
@@ -87,11 +87,6 @@ fn separator(s: &[u8], from: usize, end: usize, list: bool) -> usize
         }
         if b == b'\n' {
             return i;
-        }
-        if list {
-            if b == b',' {
-                return i;
-            }
         }
         i += 1;
     }
@@ -124,7 +119,7 @@ fn found(from: usize, to: usize, end: usize, stop: usize) -> Item
 }
 
 // The item that begins at `at`. Where no separator is at hand, the item moves to the start and more is read.
-pub fn next_item(input: &mut [u8], at: usize, upto: usize, list: bool) -> Item
+pub fn next_item(input: &mut [u8], at: usize, upto: usize) -> Item
     requires { ⌜ Unread at upto (length (now input)) ⌝ }
     ensures { λ r. ⌜ Found (r .from) (r .to) (r .end) (r .stop) (length (now (input .entry))) ⌝ }
 {
@@ -132,7 +127,7 @@ pub fn next_item(input: &mut [u8], at: usize, upto: usize, list: bool) -> Item
     let mut end = upto;
     let mut seen = at;
     loop {
-        let to = separator(&input[..], seen, end, list);
+        let to = separator(&input[..], seen, end);
         if to < end {
             return found(from, to, end, widened(input[to]));
         }

@@ -1,8 +1,14 @@
 -- What holds of the program's positions in its buffers. Assumes nothing.
 use mathlib.Core.Path.{_≡_}
 use mathlib.Core.List.{List}
-use Prim.Native.Nat.{ℕ, _≤_, _<_}
+use mathlib.Core.Bool.{cond}
+use Prim.Native.Nat.{ℕ, _+_, _*_, _≤_, _<_}
+use lib.Dec.{eqb}
 use lib.ListN.{length, getD}
+use Rattle.positions.specs.declared.Key.{Key}
+use Rattle.positions.specs.declared.OptionKey.{OptionKey}
+use Rattle.positions.specs.declared.OptionKey.the-variants.{Some, None}
+use Rattle.positions.specs.Positions.{keyFrom}
 
 -- a call may be made: the image, `size` words, and the answers, written up to `at`, lie within their buffers, and any image has room
 pub record Ready (size at pool out : ℕ) : Type 0 where
@@ -10,6 +16,13 @@ pub record Ready (size at pool out : ℕ) : Type 0 where
   pub full : 174551 ≤ pool
   pub some : 0 < out
   pub written : at ≤ out
+
+-- what a line's fields fill: bytes, and words, among which the last list begins at `list`; any list has room as an image
+pub record Held (bytes list words room lists pool : ℕ) : Type 0 where
+  pub message : bytes ≤ room
+  pub ordered : list ≤ words
+  pub listed : words ≤ lists
+  pub fits : lists ≤ pool
 
 -- a call was made
 pub record Kept (size at pool out : ℕ) : Type 0 where
@@ -24,7 +37,8 @@ pub record Carried (from end size at input pool out : ℕ) : Type 0 where
   pub written : at ≤ out
 
 -- what a run's buffers are
-pub record Roomy (pool out : ℕ) : Type 0 where
+pub record Roomy (lists pool out : ℕ) : Type 0 where
+  pub fits : lists ≤ pool
   pub full : 174551 ≤ pool
   pub some : 0 < out
 
@@ -34,3 +48,11 @@ pub record NextNonzero (image : List ℕ) (i r : ℕ) : Type 0 where
   pub within : r ≤ length image
   pub zeros : (k : ℕ) → i ≤ k → k < r → getD image k 0 ≡ 0
   pub nonzero : r < length image → getD image r 0 ≡ 0 → ⊥
+
+-- the key of field k, as the journal's reader left it among a line's numbers and keys
+abbrev pub keyAt : List ℕ → (k : ℕ) → Key
+keyAt args k = keyFrom args (10 + k * 4)
+
+-- the key of field k, or none
+unfoldable pub keyOrNone : List ℕ → (k : ℕ) → OptionKey
+keyOrNone args k = cond (eqb (getD args k 0) 0) None (Some (keyAt args k))

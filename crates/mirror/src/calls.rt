@@ -2,10 +2,15 @@
 ghost use mathlib.Core.Path.{_≡_};
 ghost use Prim.Native.Nat.{_≤_, _<_};
 ghost use lib.ListN.{length};
+ghost use lib.Seq.{paste};
 ghost use Rattle.journal.specs.Held.{Writable};
-ghost use Rattle.mirror.specs.Site.{Ready, Kept, NextNonzero};
+ghost use Rattle.mirror.specs.Site.{Ready, Kept, Held, NextNonzero, keyAt, keyOrNone};
 use advance_plan::Given;
 use integrity_pool::FreshAnswer;
+use integrity_pool::payment;
+use integrity_pool::payment::Claim;
+use integrity_pool::payment::DelegationRecord;
+use integrity_pool::payment::PaymentAnswer;
 use journal::answer;
 use journal::calls;
 use journal::line::Line;
@@ -13,6 +18,9 @@ use journal::output;
 use journal::output::Pen;
 use pool::advance::AdvanceAnswer;
 use pool::advance::ForecastAnswer;
+use positions::Key;
+use positions::OptionKey;
+use types::Epoch;
 
 // P and E, the image's length in the pool's buffer, and the settings.
 pub struct Site {
@@ -57,8 +65,8 @@ impl Site {
         }
     }
 
-    // What a call of the library is given besides the image and the message.
-    fn given(self, args: &[u64; 10]) -> Given {
+    // What an advance is given besides the image and the message.
+    fn given(self, args: [u64; 50]) -> Given {
         Given {
             current_epoch: args[0],
             y: args[1],
@@ -90,7 +98,7 @@ fn tell_size(site: Site, out: &mut [u8], pen: Pen) -> Done
 }
 
 // new P E
-fn new(site: Site, args: &[u64; 10], pool: &mut [u64], out: &mut [u8], pen: Pen) -> Done
+fn new(site: Site, args: [u64; 50], pool: &mut [u64], out: &mut [u8], pen: Pen) -> Done
     requires { ⌜ Ready (site .size) (pen .at) (length (now pool)) (length (now out)) ⌝ }
     ensures { λ r. ⌜ Kept (r .site .size) (r .pen .at) (length (now (pool .entry))) (length (now (out .entry))) ⌝ }
 {
@@ -109,7 +117,7 @@ fn new(site: Site, args: &[u64; 10], pool: &mut [u64], out: &mut [u8], pen: Pen)
 }
 
 // settings SECONDS UNLOCKING
-fn settings(site: Site, args: &[u64; 10], out: &mut [u8], pen: Pen) -> Done
+fn settings(site: Site, args: [u64; 50], out: &mut [u8], pen: Pen) -> Done
     requires { ⌜ Writable (pen .at) (length (now out)) ⌝ }
     ensures { λ r. ⌜ (r .site .size ≤ site .size) × (r .pen .at ≤ length (now (out .entry))) ⌝ }
 {
@@ -125,7 +133,7 @@ fn settings(site: Site, args: &[u64; 10], out: &mut [u8], pen: Pen) -> Done
 }
 
 // fresh EPOCH
-fn fresh(site: Site, args: &[u64; 10], image: &mut [u64], out: &mut [u8], pen: Pen) -> Pen
+fn fresh(site: Site, args: [u64; 50], image: &mut [u64], out: &mut [u8], pen: Pen) -> Pen
     requires { ⌜ Writable (pen .at) (length (now out)) ⌝ }
     ensures { λ r. ⌜ r .at ≤ length (now (out .entry)) ⌝ }
 {
@@ -138,7 +146,7 @@ fn fresh(site: Site, args: &[u64; 10], image: &mut [u64], out: &mut [u8], pen: P
 // advance NOW Y CUSTODY VERIFIED CAPS
 fn advance(
     site: Site,
-    args: &[u64; 10],
+    args: [u64; 50],
     message: &[u8],
     image: &mut [u64],
     out: &mut [u8],
@@ -163,7 +171,7 @@ fn advance(
 // forecast NOW Y CUSTODY VERIFIED CAPS
 fn forecast(
     site: Site,
-    args: &[u64; 10],
+    args: [u64; 50],
     message: &[u8],
     image: &[u64],
     out: &mut [u8],
@@ -176,6 +184,79 @@ fn forecast(
     match integrity_pool::forecast(image, site.p, site.e, message, given) {
         ForecastAnswer::SetsAside(amount) => answer::ok(out, pen, &[amount.0]),
         ForecastAnswer::Refused(n) => answer::refused(out, pen, n),
+    }
+}
+
+// The key of field k.
+fn key(args: [u64; 50], k: usize) -> Key
+    requires { ⌜ k < 10 ⌝ }
+    ensures { λ r. ⌜ r ≡ keyAt args k ⌝ }
+{
+    let i = 10 + k * 4;
+    Key(args[i], args[i + 1], args[i + 2], args[i + 3])
+}
+
+// The key of field k, or none.
+fn key_or_none(args: [u64; 50], k: usize) -> OptionKey
+    requires { ⌜ k < 10 ⌝ }
+    ensures { λ r. ⌜ r ≡ keyOrNone args k ⌝ }
+{
+    if args[k] == 0 {
+        return OptionKey::None;
+    }
+    OptionKey::Some(key(args, k))
+}
+
+// What a payment is given besides the image and the positions.
+fn claim(args: [u64; 50], unlocking_duration: u64) -> Claim {
+    let found = DelegationRecord {
+        last_epoch: Epoch(args[3]),
+        next_slash_event_index: args[4],
+    };
+    let publisher = key(args, 1);
+    let account = key(args, 2);
+    let publisher_account = key_or_none(args, 5);
+    Claim {
+        delegation_record: found,
+        publisher,
+        stake_account_positions: account,
+        publisher_stake_account_positions: publisher_account,
+        publisher_stake_account_custody: args[6],
+        current_epoch: args[0],
+        unlocking_duration,
+    }
+}
+
+// payment NOW PUBLISHER ACCOUNT RECORD_EPOCH NEXT_INDEX PUBLISHER_ACCOUNT CUSTODY_FLAG POSITIONS
+fn payment(
+    site: Site,
+    args: [u64; 50],
+    positions: &[u64],
+    image: &mut [u64],
+    out: &mut [u8],
+    pen: Pen,
+) -> Pen
+    requires { ⌜ Writable (pen .at) (length (now out)) ⌝ }
+    ensures { λ r. ⌜ r .at ≤ length (now (out .entry)) ⌝ }
+{
+    let claim = claim(args, site.unlocking_duration);
+    match payment::advance_delegation_record(image, site.p, site.e, positions, claim) {
+        PaymentAnswer::Paid {
+            delegator_reward,
+            publisher_reward,
+            custody_fall: _,
+            delegation_record,
+            reads,
+        } => {
+            let next = delegation_record.next_slash_event_index;
+            let last = delegation_record.last_epoch.0;
+            answer::ok(
+                out,
+                pen,
+                &[delegator_reward.0, publisher_reward.0, last, next, reads],
+            )
+        }
+        PaymentAnswer::Refused(n) => answer::refused(out, pen, n),
     }
 }
 
@@ -219,6 +300,17 @@ fn nonzero(image: &[u64], out: &mut [u8], pen: Pen) -> Pen
     output::byte(out, next, b'\n')
 }
 
+// image and nonzero
+fn tell_image(call: usize, image: &[u64], out: &mut [u8], pen: Pen) -> Pen
+    requires { ⌜ Writable (pen .at) (length (now out)) ⌝ }
+    ensures { λ r. ⌜ r .at ≤ length (now (out .entry)) ⌝ }
+{
+    if call == calls::IMAGE {
+        return answer::ok(out, pen, image);
+    }
+    nonzero(image, out, pen)
+}
+
 // load PATH
 fn load(site: Site, path: &[u8], pool: &mut [u64], out: &mut [u8], pen: Pen) -> Done
     requires { ⌜ Ready (site .size) (pen .at) (length (now pool)) (length (now out)) ⌝ }
@@ -243,26 +335,64 @@ fn save(site: Site, path: &[u8], image: &[u64], out: &mut [u8], pen: Pen) -> Don
     tell_size(site, out, pen)
 }
 
-// Calls on the image that the library answers.
-fn ask(
+// Words become the start of the image's buffer.
+fn copy(words: &[u64], pool: &mut [u64])
+    requires { ⌜ length (now words) ≤ length (now pool) ⌝ }
+    ensures { λ r. ⌜ now (pool .exit) ≡ paste (now (pool .entry)) 0 (now (words .entry)) (length (now (words .entry))) ⌝ }
+{
+    let mut i = 0;
+    while i < words.len() {
+        pool[i] = words[i];
+        i += 1;
+    }
+}
+
+// image WORDS
+fn take_image(site: Site, words: &[u64], pool: &mut [u64], out: &mut [u8], pen: Pen) -> Done
+    requires { ⌜ Ready (site .size) (pen .at) (length (now pool)) (length (now out)) × (length (now words) ≤ length (now pool)) ⌝ }
+    ensures { λ r. ⌜ Kept (r .site .size) (r .pen .at) (length (now (pool .entry))) (length (now (out .entry))) ⌝ }
+{
+    copy(words, pool);
+    tell_size(site.sized(words.len()), out, pen)
+}
+
+// Calls that lay out a site.
+fn site_call(
     call: usize,
     site: Site,
-    args: &[u64; 10],
-    message: &[u8],
-    image: &mut [u64],
+    args: [u64; 50],
+    pool: &mut [u64],
     out: &mut [u8],
     pen: Pen,
-) -> Pen
-    requires { ⌜ Writable (pen .at) (length (now out)) ⌝ }
-    ensures { λ r. ⌜ r .at ≤ length (now (out .entry)) ⌝ }
+) -> Done
+    requires { ⌜ Ready (site .size) (pen .at) (length (now pool)) (length (now out)) ⌝ }
+    ensures { λ r. ⌜ Kept (r .site .size) (r .pen .at) (length (now (pool .entry))) (length (now (out .entry))) ⌝ }
 {
-    if call == calls::FRESH {
-        return fresh(site, args, image, out, pen);
+    if call == calls::NEW {
+        return new(site, args, pool, out, pen);
     }
-    if call == calls::ADVANCE {
-        return advance(site, args, message, image, out, pen);
+    settings(site, args, out, pen)
+}
+
+// Calls on the image as it is.
+fn image_call(
+    call: usize,
+    site: Site,
+    taken: bool,
+    words: &[u64],
+    pool: &mut [u64],
+    out: &mut [u8],
+    pen: Pen,
+) -> Done
+    requires { ⌜ Ready (site .size) (pen .at) (length (now pool)) (length (now out)) × (length (now words) ≤ length (now pool)) ⌝ }
+    ensures { λ r. ⌜ Kept (r .site .size) (r .pen .at) (length (now (pool .entry))) (length (now (out .entry))) ⌝ }
+{
+    if taken {
+        return take_image(site, words, pool, out, pen);
     }
-    forecast(site, args, message, image, out, pen)
+    let size = site.size;
+    let told = tell_image(call, &pool[..size], out, pen);
+    finished(site, told, 0)
 }
 
 // Calls on files.
@@ -284,11 +414,11 @@ fn file_call(
     save(site, path, &pool[..size], out, pen)
 }
 
-// Calls on the image as it is.
-fn image_call(
+// Calls that close epochs.
+fn epoch_call(
     call: usize,
     site: Site,
-    args: &[u64; 10],
+    args: [u64; 50],
     message: &[u8],
     image: &mut [u64],
     out: &mut [u8],
@@ -297,42 +427,52 @@ fn image_call(
     requires { ⌜ Writable (pen .at) (length (now out)) ⌝ }
     ensures { λ r. ⌜ r .at ≤ length (now (out .entry)) ⌝ }
 {
-    if call == calls::IMAGE {
-        return answer::ok(out, pen, image);
+    if call == calls::FRESH {
+        return fresh(site, args, image, out, pen);
     }
-    if call == calls::NONZERO {
-        return nonzero(image, out, pen);
+    if call == calls::ADVANCE {
+        return advance(site, args, message, image, out, pen);
     }
-    ask(call, site, args, message, image, out, pen)
+    forecast(site, args, message, image, out, pen)
 }
 
-// Calls that lay out a site, and those that leave it.
-fn site_call(
-    line: Line,
+// Calls that the library answers.
+fn ask(
+    call: usize,
     site: Site,
-    args: &[u64; 10],
+    args: [u64; 50],
     message: &[u8],
+    positions: &[u64],
+    image: &mut [u64],
+    out: &mut [u8],
+    pen: Pen,
+) -> Pen
+    requires { ⌜ Writable (pen .at) (length (now out)) ⌝ }
+    ensures { λ r. ⌜ r .at ≤ length (now (out .entry)) ⌝ }
+{
+    if call == calls::PAYMENT {
+        return payment(site, args, positions, image, out, pen);
+    }
+    epoch_call(call, site, args, message, image, out, pen)
+}
+
+// Calls on the pool.
+fn pool_call(
+    call: usize,
+    site: Site,
+    args: [u64; 50],
+    message: &[u8],
+    positions: &[u64],
     pool: &mut [u64],
     out: &mut [u8],
     pen: Pen,
 ) -> Done
-    requires { ⌜ Ready (site .size) (pen .at) (length (now pool)) (length (now out)) × (line .words ≤ length (now pool)) ⌝ }
+    requires { ⌜ Ready (site .size) (pen .at) (length (now pool)) (length (now out)) ⌝ }
     ensures { λ r. ⌜ Kept (r .site .size) (r .pen .at) (length (now (pool .entry))) (length (now (out .entry))) ⌝ }
 {
-    let call = line.call;
-    if call == calls::NEW {
-        return new(site, args, pool, out, pen);
-    }
-    if call == calls::SETTINGS {
-        return settings(site, args, out, pen);
-    }
-    if call == calls::IMAGE {
-        if line.count == 1 {
-            return tell_size(site.sized(line.words), out, pen);
-        }
-    }
     let size = site.size;
-    let told = image_call(call, site, args, message, &mut pool[..size], out, pen);
+    let image = &mut pool[..size];
+    let told = ask(call, site, args, message, positions, image, out, pen);
     finished(site, told, 0)
 }
 
@@ -340,22 +480,33 @@ fn site_call(
 pub fn act(
     line: Line,
     site: Site,
-    args: &[u64; 10],
     bytes: &[u8],
+    words: &[u64],
     pool: &mut [u64],
     out: &mut [u8],
     pen: Pen,
 ) -> Done
-    requires { ⌜ Ready (site .size) (pen .at) (length (now pool)) (length (now out)) × (line .bytes ≤ length (now bytes)) × (line .words ≤ length (now pool)) ⌝ }
+    requires { ⌜ Ready (site .size) (pen .at) (length (now pool)) (length (now out)) × Held (line .bytes) (line .list) (line .words) (length (now bytes)) (length (now words)) (length (now pool)) ⌝ }
     ensures { λ r. ⌜ Kept (r .site .size) (r .pen .at) (length (now (pool .entry))) (length (now (out .entry))) ⌝ }
 {
     if line.what != 0 {
         return finished(site, pen, line.what);
     }
-    let n = line.bytes;
     let call = line.call;
-    if calls::LOAD <= call {
-        return file_call(call, site, &bytes[..n], pool, out, pen);
+    let args = line.args;
+    let n = line.bytes;
+    let field = &bytes[..n];
+    let from = line.list;
+    let to = line.words;
+    let list = &words[from..to];
+    if call <= calls::SETTINGS {
+        return site_call(call, site, args, pool, out, pen);
     }
-    site_call(line, site, args, &bytes[..n], pool, out, pen)
+    if call <= calls::NONZERO {
+        return image_call(call, site, line.count == 1, list, pool, out, pen);
+    }
+    if call <= calls::SAVE {
+        return file_call(call, site, field, pool, out, pen);
+    }
+    pool_call(call, site, args, field, list, pool, out, pen)
 }

@@ -5,7 +5,7 @@ ghost use mathlib.Core.Path.{_≡_};
 ghost use Prim.Native.Nat.{_≤_, _<_};
 ghost use lib.ListN.{length};
 ghost use Rattle.journal.specs.Held.{Unread};
-ghost use Rattle.mirror.specs.Site.{Ready, Kept, Carried, Roomy};
+ghost use Rattle.mirror.specs.Site.{Ready, Kept, Held, Carried, Roomy};
 use calls::Done;
 use calls::Site;
 use journal::answer;
@@ -67,16 +67,16 @@ fn finish(
     read: Line,
     number: u64,
     site: Site,
-    args: &[u64; 10],
     bytes: &[u8],
+    words: &[u64],
     pool: &mut [u64],
     out: &mut [u8],
     pen: Pen,
 ) -> Done
-    requires { ⌜ Ready (site .size) (pen .at) (length (now pool)) (length (now out)) × (read .bytes ≤ length (now bytes)) × (read .words ≤ length (now pool)) ⌝ }
+    requires { ⌜ Ready (site .size) (pen .at) (length (now pool)) (length (now out)) × Held (read .bytes) (read .list) (read .words) (length (now bytes)) (length (now words)) (length (now pool)) ⌝ }
     ensures { λ r. ⌜ Kept (r .site .size) (r .pen .at) (length (now (pool .entry))) (length (now (out .entry))) ⌝ }
 {
-    let done = calls::act(read, site, args, bytes, pool, &mut out[..], pen);
+    let done = calls::act(read, site, bytes, words, pool, &mut out[..], pen);
     let what = done.what;
     if what == 0 {
         return done;
@@ -95,20 +95,20 @@ fn call_line(
     input: &mut [u8],
     from: usize,
     upto: usize,
-    args: &mut [u64; 10],
     bytes: &mut [u8],
+    words: &mut [u64],
     pool: &mut [u64],
     out: &mut [u8],
     state: State,
 ) -> State
-    requires { ⌜ Roomy (length (now pool)) (length (now out)) × Carried from upto (state .site .size) (state .pen .at) (length (now input)) (length (now pool)) (length (now out)) ⌝ }
+    requires { ⌜ Roomy (length (now words)) (length (now pool)) (length (now out)) × Carried from upto (state .site .size) (state .pen .at) (length (now input)) (length (now pool)) (length (now out)) ⌝ }
     ensures { λ r. ⌜ Carried (r .at) (r .end) (r .site .size) (r .pen .at) (length (now (input .entry))) (length (now (pool .entry))) (length (now (out .entry))) ⌝ }
 {
     let number = state.line;
     let site = state.site;
     let pen = state.pen;
-    let read = line::read_line(input, from, upto, args, &mut bytes[..], &mut pool[..]);
-    let done = finish(read, number, site, args, bytes, pool, out, pen);
+    let read = line::read_line(input, from, upto, &mut bytes[..], &mut words[..]);
+    let done = finish(read, number, site, bytes, words, pool, out, pen);
     let next = done.site;
     let told = done.pen;
     State {
@@ -190,13 +190,13 @@ fn comment(input: &mut [u8], at: usize, end: usize, state: State) -> State
 // A call, a comment, or a line's end.
 fn step(
     input: &mut [u8],
-    args: &mut [u64; 10],
     bytes: &mut [u8],
+    words: &mut [u64],
     pool: &mut [u64],
     out: &mut [u8],
     state: State,
 ) -> State
-    requires { ⌜ Roomy (length (now pool)) (length (now out)) × Carried (state .at) (state .end) (state .site .size) (state .pen .at) (length (now input)) (length (now pool)) (length (now out)) ⌝ }
+    requires { ⌜ Roomy (length (now words)) (length (now pool)) (length (now out)) × Carried (state .at) (state .end) (state .site .size) (state .pen .at) (length (now input)) (length (now pool)) (length (now out)) ⌝ }
     ensures { λ r. ⌜ Carried (r .at) (r .end) (r .site .size) (r .pen .at) (length (now (input .entry))) (length (now (pool .entry))) (length (now (out .entry))) ⌝ }
 {
     let next = input::next_byte(&mut input[..], state.at, state.end);
@@ -212,18 +212,18 @@ fn step(
     if byte == 35 {
         return comment(input, at, end, state);
     }
-    call_line(input, at, end, args, bytes, pool, out, state)
+    call_line(input, at, end, bytes, words, pool, out, state)
 }
 
 // Answers line after line until the input ends, a line is wrong, or the answers can't be written.
 fn run(
     input: &mut [u8],
-    args: &mut [u64; 10],
     bytes: &mut [u8],
+    words: &mut [u64],
     pool: &mut [u64],
     out: &mut [u8],
 ) -> Pen
-    requires { ⌜ Roomy (length (now pool)) (length (now out)) ⌝ }
+    requires { ⌜ Roomy (length (now words)) (length (now pool)) (length (now out)) ⌝ }
     ensures { λ r. ⌜ r .at ≤ length (now (out .entry)) ⌝ }
 {
     let mut state = State::first();
@@ -232,8 +232,8 @@ fn run(
         turns -= 1;
         state = step(
             &mut input[..],
-            args,
             &mut bytes[..],
+            &mut words[..],
             &mut pool[..],
             &mut out[..],
             state,
@@ -259,6 +259,13 @@ fn message_room() -> [u8; 40972]
     [0; 40972]
 }
 
+// The longest word list is an image's.
+fn list_room() -> [u64; 174551]
+    ensures { λ r. ⌜ 174551 ≡ length r ⌝ }
+{
+    [0; 174551]
+}
+
 // The largest image.
 fn image_room() -> [u64; 174551]
     ensures { λ r. ⌜ 174551 ≡ length r ⌝ }
@@ -268,11 +275,11 @@ fn image_room() -> [u64; 174551]
 
 fn main() {
     let mut input = input_room();
-    let mut args = [0u64; 10];
     let mut bytes = message_room();
+    let mut words = list_room();
     let mut pool = image_room();
     let mut out = io::large_buffer();
-    let pen = run(&mut input, &mut args, &mut bytes, &mut pool, &mut out);
+    let pen = run(&mut input, &mut bytes, &mut words, &mut pool, &mut out);
     let last = output::flush(&out, pen);
     if !last.ok {
         io::write_all(

@@ -1,2 +1,5 @@
 pub mod DecimalLaws
 pub mod HexLaws
+pub mod KeyLaws
+pub mod ItemsLaws
+pub mod WordsLaws

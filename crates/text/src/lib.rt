@@ -1,9 +1,13 @@
 // Fields of a journal, read from their bytes.
 ghost use mathlib.Core.Path.{_≡_};
+ghost use mathlib.Core.Bool.{true};
 ghost use Prim.Native.Nat.{_+_, _*_, _≤_, _<_};
 ghost use lib.ListN.{length};
 ghost use Rattle.text.specs.Decimal.{numberOf};
 ghost use Rattle.text.specs.Hex.{nibbleOf, allHex, bytesOf, spelled};
+ghost use Rattle.text.specs.Key.{wordAt, keyOf};
+
+pub mod items;
 
 pub enum Number {
     Value(u64),
@@ -96,6 +100,44 @@ pub fn pair(high: u8, low: u8) -> u64
     let h = nibble(high);
     let l = nibble(low);
     h * 16 + l
+}
+
+pub enum KeyRead {
+    Is(u64, u64, u64, u64),
+    NotKey,
+}
+
+// The word that 16 digits from `at` on spell, its lowest byte first.
+fn word(s: &[u8], at: usize) -> u64
+    requires { ⌜ (allHex (now s) ≡ true) × (at + 16 ≤ length (now s)) ⌝ }
+    ensures { λ r. ⌜ r ≡ wordAt (now (s .entry)) at ⌝ }
+{
+    let mut total: u64 = 0;
+    let mut i = 8;
+    while 0 < i {
+        i -= 1;
+        let j = at + i * 2;
+        let byte = pair(s[j], s[j + 1]);
+        total = byte + 256 * total;
+    }
+    total
+}
+
+// A key of 64 hexadecimal digits, as four words.
+pub fn key(s: &[u8]) -> KeyRead
+    ensures { λ r. ⌜ r ≡ keyOf (now (s .entry)) ⌝ }
+{
+    if s.len() != 64 {
+        return KeyRead::NotKey;
+    }
+    if all_hex(s) {
+        let a = word(s, 0);
+        let b = word(s, 16);
+        let c = word(s, 32);
+        let d = word(s, 48);
+        return KeyRead::Is(a, b, c, d);
+    }
+    KeyRead::NotKey
 }
 
 pub enum BytesRead {

@@ -55,6 +55,9 @@ same-length-8 c = search needs
 same-length-9 : tie.Need-same-length-9
 same-length-9 c = search needs
 
+same-length-10 : tie.Need-same-length-10
+same-length-10 c = search needs
+
 returns-4 : tie.Need-returns-4
 returns-4 c = search needs
 
@@ -79,4 +82,5 @@ step-spec =
     same-length-7
     same-length-8
     same-length-9
+    same-length-10
     returns-4)

@@ -13,8 +13,8 @@ enum-known-n c = search needs
 mul-args : tie.Need-mul-args
 mul-args c = search needs
 
-element-write-args : tie.Need-element-write-args
-element-write-args c = search needs
+array-write-args : tie.Need-array-write-args
+array-write-args c = search needs
 
 enum-told : tie.Need-enum-told
 enum-told c = search needs
@@ -44,7 +44,7 @@ number-spec =
     decimal-requires
     enum-known-n
     mul-args
-    element-write-args
+    array-write-args
     enum-told
     enum-told-2
     enum-told-3

@@ -16,10 +16,10 @@ less l held got h n g = fewer l held got (omega (arith, n)) (pos-of-ne-zero g)
     fewer l held got h n = omega arith
 
 abbrev Inv-loop : tie.InvT-loop
-Inv-loop input₀ at upto list from₀ end₀ seen₀ input from end seen = (length input ≡ length input₀) × (from ≤ seen) × (seen ≤ end) × (end ≤ length input₀)
+Inv-loop input₀ at upto from₀ end₀ seen₀ input from end seen = (length input ≡ length input₀) × (from ≤ seen) × (seen ≤ end) × (end ≤ length input₀)
 
 abbrev μ-loop : tie.MeasureT-loop
-μ-loop input₀ at upto list from₀ end₀ seen₀ input from end seen = length input₀ - (end - from)
+μ-loop input₀ at upto from₀ end₀ seen₀ input from end seen = length input₀ - (end - from)
 
 loop-holds : tie.Need-loop-holds Inv-loop μ-loop
 loop-holds c = search needs
@@ -82,7 +82,10 @@ returns-3 : tie.Need-returns-3 Inv-loop μ-loop
 returns-3 c = search needs
 
 loop-less : tie.Need-loop-less Inv-loop μ-loop
-loop-less c = less _ _ _ (omega arith) (λ q. c .before .before .before .before .before .before .before .before .before .if2 .left (q ∙ sym (c .before .before .before .before .before .before .before .before .before .before .before .before .before .loop .inv .0))) (c .if3 .left)
+loop-less c =
+    less _ _ _ (omega arith)
+    (λ q. c .before .before .before .before .before .before .before .before .before .if2 .left (q ∙ sym (c .before .before .before .before .before .before .before .before .before .before .before .before .before .loop .inv .0)))
+    (c .if3 .left)
 
 loop-again : tie.Need-loop-again Inv-loop μ-loop
 loop-again c = search needs

@@ -5,10 +5,10 @@ use Rattle.journal.proofs.input.separator.Statement.{statement}
 use Rattle.journal.proofs.input.separator.Tie as tie
 
 abbrev Inv-loop : tie.InvT-loop
-Inv-loop s from end list i₀ i = (from ≤ i) × (i ≤ end)
+Inv-loop s from end i₀ i = (from ≤ i) × (i ≤ end)
 
 abbrev μ-loop : tie.MeasureT-loop
-μ-loop s from end list i₀ i = end - i
+μ-loop s from end i₀ i = end - i
 
 loop-holds : tie.Need-loop-holds Inv-loop μ-loop
 loop-holds c = search needs
@@ -22,9 +22,6 @@ returns c = search needs
 returns-2 : tie.Need-returns-2 Inv-loop μ-loop
 returns-2 c = search needs
 
-returns-3 : tie.Need-returns-3 Inv-loop μ-loop
-returns-3 c = search needs
-
 add-i : tie.Need-add-i Inv-loop μ-loop
 add-i c = search needs
 
@@ -34,8 +31,8 @@ loop-less c = search needs
 loop-again : tie.Need-loop-again Inv-loop μ-loop
 loop-again c = search needs
 
-returns-4 : tie.Need-returns-4 Inv-loop μ-loop
-returns-4 c = search needs
+returns-3 : tie.Need-returns-3 Inv-loop μ-loop
+returns-3 c = search needs
 
 pub separator-spec : {M : Type 1} → statement M
 separator-spec =
@@ -47,8 +44,7 @@ separator-spec =
     shared-slice-read-b
     returns
     returns-2
-    returns-3
     add-i
     loop-less
     loop-again
-    returns-4)
+    returns-3)

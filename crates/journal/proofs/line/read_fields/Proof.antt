@@ -8,10 +8,12 @@ use Rattle.journal.proofs.line.read_fields.Statement.{statement}
 use Rattle.journal.proofs.line.read_fields.Tie as tie
 
 abbrev Inv-loop : tie.InvT-loop
-Inv-loop call input₀ at upto args₀ bytes₀ pool₀ line₀ k₀ input args bytes pool line k = (length input ≡ length input₀) × (length bytes ≡ length bytes₀) × (length pool ≡ length pool₀) × Filled (line .at) (line .end) (line .bytes) (line .words) (length input₀) (length bytes₀) (length pool₀)
+Inv-loop call input₀ at upto bytes₀ words₀ line₀ k₀ input bytes words line k =
+    (length input ≡ length input₀) × (length bytes ≡ length bytes₀) × (length words ≡ length words₀)
+    × Filled (line .at) (line .end) (line .bytes) (line .list) (line .words) (length input₀) (length bytes₀) (length words₀)
 
 abbrev μ-loop : tie.MeasureT-loop
-μ-loop call input₀ at upto args₀ bytes₀ pool₀ line₀ k₀ input args bytes pool line k = 10 - k
+μ-loop call input₀ at upto bytes₀ words₀ line₀ k₀ input bytes words line k = 10 - k
 
 new-requires : tie.Need-new-requires Inv-loop μ-loop
 new-requires c κs = search needs

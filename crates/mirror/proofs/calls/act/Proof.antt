@@ -11,11 +11,23 @@ finished-requires c κs = search needs
 returns : tie.Need-returns
 returns c = search needs
 
-slice-aggregate-file-call : tie.Need-slice-aggregate-file-call
-slice-aggregate-file-call c = simp length-take (omega arith)
+slice-aggregate-field : tie.Need-slice-aggregate-field
+slice-aggregate-field c = simp length-take (omega arith)
 
-file-call-requires : tie.Need-file-call-requires
-file-call-requires c κs = search needs
+mul-list : tie.Need-mul-list
+mul-list c = search needs
+
+sub-list : tie.Need-sub-list
+sub-list c = search needs
+
+part-list-start : tie.Need-part-list-start
+part-list-start c = search needs
+
+part-list-end : tie.Need-part-list-end
+part-list-end c = search needs
+
+site-call-requires : tie.Need-site-call-requires
+site-call-requires c κs = search needs
 
 same-length : tie.Need-same-length
 same-length c = search needs
@@ -26,11 +38,8 @@ same-length-2 c = search needs
 returns-2 : tie.Need-returns-2
 returns-2 c = search needs
 
-slice-aggregate-site-call : tie.Need-slice-aggregate-site-call
-slice-aggregate-site-call c = simp length-take (omega arith)
-
-site-call-requires : tie.Need-site-call-requires
-site-call-requires c κs = search needs
+image-call-requires : tie.Need-image-call-requires
+image-call-requires c κs = search needs
 
 same-length-3 : tie.Need-same-length-3
 same-length-3 c = search needs
@@ -41,19 +50,54 @@ same-length-4 c = search needs
 returns-3 : tie.Need-returns-3
 returns-3 c = search needs
 
+file-call-requires : tie.Need-file-call-requires
+file-call-requires c κs = search needs
+
+same-length-5 : tie.Need-same-length-5
+same-length-5 c = search needs
+
+same-length-6 : tie.Need-same-length-6
+same-length-6 c = search needs
+
+returns-4 : tie.Need-returns-4
+returns-4 c = search needs
+
+pool-call-requires : tie.Need-pool-call-requires
+pool-call-requires c κs = search needs
+
+same-length-7 : tie.Need-same-length-7
+same-length-7 c = search needs
+
+same-length-8 : tie.Need-same-length-8
+same-length-8 c = search needs
+
+returns-5 : tie.Need-returns-5
+returns-5 c = search needs
+
 pub act-spec : {M : Type 1} → statement M
 act-spec =
     tie.close
     (tie.spec
     finished-requires
     returns
-    slice-aggregate-file-call
-    file-call-requires
+    slice-aggregate-field
+    mul-list
+    sub-list
+    part-list-start
+    part-list-end
+    site-call-requires
     same-length
     same-length-2
     returns-2
-    slice-aggregate-site-call
-    site-call-requires
+    image-call-requires
     same-length-3
     same-length-4
-    returns-3)
+    returns-3
+    file-call-requires
+    same-length-5
+    same-length-6
+    returns-4
+    pool-call-requires
+    same-length-7
+    same-length-8
+    returns-5)

@@ -5,11 +5,11 @@ use borrow.Author.Needs.{needs}
 use Rattle.mirror.proofs.calls.new.Statement.{statement}
 use Rattle.mirror.proofs.calls.new.Tie as tie
 
-element-copy-out-p : tie.Need-element-copy-out-p
-element-copy-out-p c = search needs
+array-read-p : tie.Need-array-read-p
+array-read-p c = search needs
 
-element-copy-out-e : tie.Need-element-copy-out-e
-element-copy-out-e c = search needs
+array-read-e : tie.Need-array-read-e
+array-read-e c = search needs
 
 size-requires : tie.Need-size-requires
 size-requires c κs = search needs
@@ -39,8 +39,8 @@ pub new-spec : {M : Type 1} → statement M
 new-spec =
     tie.close
     (tie.spec
-    element-copy-out-p
-    element-copy-out-e
+    array-read-p
+    array-read-e
     size-requires
     slice-relend-prefix-clear
     slice-aggregate-clear

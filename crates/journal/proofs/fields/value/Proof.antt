@@ -1,0 +1,44 @@
+-- `journal::fields::value` meets its contract. Assumes nothing.
+use Rattle.journal.proofs.FieldsLaws.{value-number, value-none, value-key}
+use native.Mathlib.Omega.{arith}
+use borrow.Author.Needs.{needs}
+use Rattle.journal.proofs.fields.value.Statement.{statement}
+use Rattle.journal.proofs.fields.value.Tie as tie
+
+number-requires : tie.Need-number-requires
+number-requires c κs = search needs
+
+returns : tie.Need-returns
+returns c = value-number _ _ _ _ _ _ (omega arith) (c .number .ensures)
+
+is-none-requires : tie.Need-is-none-requires
+is-none-requires c κs = search needs
+
+mul-args : tie.Need-mul-args
+mul-args c = search needs
+
+array-write-args : tie.Need-array-write-args
+array-write-args c = search needs
+
+returns-2 : tie.Need-returns-2
+returns-2 c = value-none _ _ _ _ _ (c .before .before .if1 .left) (c .before .is-none .ensures) (c .if2 .taken)
+
+key-requires : tie.Need-key-requires
+key-requires c κs = search needs
+
+returns-3 : tie.Need-returns-3
+returns-3 c =
+    value-key _ _ _ _ _ _ _ (c .before .before .before .if1 .left) (c .before .before .is-none .ensures) (c .before .if2 .left) (c .key .ensures)
+
+pub value-spec : {M : Type 1} → statement M
+value-spec =
+    tie.close
+    (tie.spec
+    number-requires
+    returns
+    is-none-requires
+    mul-args
+    array-write-args
+    returns-2
+    key-requires
+    returns-3)

@@ -1,0 +1,24 @@
+-- `mirror::calls::key_or_none` meets its contract. Assumes nothing.
+use Rattle.mirror.proofs.SiteLaws.{no-key, some-key}
+use native.Mathlib.Omega.{arith}
+use borrow.Author.Needs.{needs}
+use Rattle.mirror.proofs.calls.key_or_none.Statement.{statement}
+use Rattle.mirror.proofs.calls.key_or_none.Tie as tie
+
+mul-if1 : tie.Need-mul-if1
+mul-if1 c = search needs
+
+array-read-if1 : tie.Need-array-read-if1
+array-read-if1 c = search needs
+
+returns : tie.Need-returns
+returns c = no-key _ _ (omega arith)
+
+key-requires : tie.Need-key-requires
+key-requires c κs = search needs
+
+returns-2 : tie.Need-returns-2
+returns-2 c = some-key _ _ _ (c .before .if1 .left) (c .key .ensures)
+
+pub key-or-none-spec : {M : Type 1} → statement M
+key-or-none-spec = tie.close (tie.spec mul-if1 array-read-if1 returns key-requires returns-2)
