@@ -1,6 +1,7 @@
-"""Journals at random, on pools of one P, E and epoch length: lists of calls from a fresh pool, made-up images, damaged inputs.
+"""Journals at random, on pools of one P, E and settings: lists of calls from a fresh pool, made-up images, damaged inputs.
 
-What is written next depends on the image that the model keeps, so that amounts, epochs and custody come close to the edges.
+What is written next depends on the image that the model keeps, so that amounts, epochs and custody come close to the edges. Here
+are fresh, advance and forecast; payments.py adds its own, levels.py says how often each list comes.
 """
 import random
 
@@ -59,16 +60,16 @@ def line(name, a):
 
 
 class Generator:
-    def __init__(self, journal, seed, p, e, seconds):
+    def __init__(self, journal, seed, p, e, seconds, unlocking):
         self.journal, self.site = journal, journal.site
-        self.r = random.Random(f"{seed} {p} {e} {seconds}")
-        self.p, self.e, self.seconds = p, e, seconds
+        self.r = random.Random(f"{seed} {p} {e} {seconds} {unlocking}")
+        self.p, self.e, self.seconds, self.unlocking = p, e, seconds, unlocking
         self.most_now = (HALF - 1) // seconds if seconds else HALF - 1
         self.keys = keys(self.r, p + 4)
         others = [k for k in keys(self.r, 1_100) if k not in self.keys]
         self.crowd = sorted((self.keys + others)[:1_024])
         self.scale = 1_000
-        journal.say(f"settings {seconds} 1")
+        journal.say(f"settings {seconds} {unlocking}")
         journal.say(f"new {p} {e}")
 
     def last(self):
@@ -96,6 +97,10 @@ class Generator:
         if kind < .5:
             return self.r.choice(EDGES)
         return self.r.randrange(100) if kind < .8 else self.r.getrandbits(64)
+
+    def new_scale(self):
+        """That of a list's amounts."""
+        return max(2, self.r.choice(SCALES) // self.p)
 
     def amount(self):
         return self.r.choice(EDGES) if self.r.random() < .05 / self.p else self.r.randrange(self.scale)
@@ -224,8 +229,8 @@ class Generator:
 
     # Images.
 
-    def stake(self):
-        """Amounts, fees and what is claimable, put in by hand."""
+    def staked(self):
+        """The image with amounts, fees and what is claimable put in by hand."""
         pool = self.site.pool()
         words = list(pool.words)
         for seat in range(self.p):
@@ -237,7 +242,7 @@ class Generator:
                 words[pool.fees + seat] = self.r.choice([0, 1_000_000, self.r.randrange(1_000_001), self.word()])
         if self.r.random() < .2:
             words[1] = self.amount()
-        self.journal.put(words)
+        return words
 
     def made_up_key(self):
         kind = self.r.random()
@@ -264,8 +269,8 @@ class Generator:
                               WORD - 2]) % WORD
 
     def made_up(self):
-        """An image that no list of calls leaves."""
-        self.scale = max(2, self.r.choice(SCALES) // self.p)
+        """The words of an image that no list of calls leaves."""
+        self.scale = self.new_scale()
         pool = model.Pool(self.p, self.e, [0] * model.length(self.p, self.e))
         words = pool.words
         density = self.r.choice([0, 0, .02, .02, 1]) if len(words) < 500 else .005
@@ -277,7 +282,7 @@ class Generator:
         words[2:2 + 4 * self.p] = [w for _ in range(self.p) for w in self.made_up_key()]
         words[pool.other:pool.stake_accounts] = [w for _ in range(2 * self.p) for w in self.made_up_side()]
         words[pool.n] = self.made_up_n()
-        self.journal.put(words)
+        return words
 
     # What a level is made of.
 
@@ -303,15 +308,15 @@ class Generator:
         self.call("advance", a)
 
     def grown_list(self):
-        self.scale = max(2, self.r.choice(SCALES) // self.p)
+        self.scale = self.new_scale()
         self.fresh()
         for _ in range(self.r.randrange(2, 9)):
             if self.r.random() < .7:
-                self.stake()
+                self.journal.put(self.staked())
             self.step()
 
     def made_up_list(self):
-        self.made_up()
+        self.journal.put(self.made_up())
         for _ in range(self.r.randrange(1, 3)):
             self.step()
 
@@ -366,18 +371,3 @@ class Generator:
         self.all_calls(a)
         self.journal.say(f"new {self.p} {self.e}")
         self.journal.put(words)
-
-
-# A later landing adds its calls' lists here, with their weights.
-LEVELS = {
-    "watch": [(50, Generator.grown_list), (40, Generator.made_up_list), (4, Generator.sum_at_the_edge),
-              (9, Generator.other_image), (2, Generator.other_sizes)],
-}
-
-
-def write(journal, level, seed, size, seconds, calls):
-    """A journal of at least so many calls on pools of one size and epoch length."""
-    generator = Generator(journal, seed, *size, seconds)
-    weights, lists = zip(*LEVELS[level])
-    while journal.calls < calls:
-        generator.r.choices(lists, weights)[0](generator)

@@ -11,16 +11,18 @@ MOST_EPOCHS = 100_000       # the oracle's, driver/checks.rs
 # Who decides the expected answer.
 RUST = "the Rust"
 OUTSIDE = "the model: outside"      # the oracle must answer `outside`
-LISTED = "the model: listed"        # a difference that docs/DIFFERENCES.md lists
+LISTED = "the model: listed"        # a difference that docs/DIFFERENCES.md lists; the oracle must answer as the model says the Rust does
 APART = "the model: behind those"   # the image after one of the two, before both have the same again
 
-CALLS = ("fresh", "advance", "forecast")
+# The calls that can be refused, and the level that each came with.
+CALLS = {"fresh": "watch", "advance": "watch", "forecast": "watch", "payment": "pay"}
 
 
 class Line(NamedTuple):
     text: str
     answer: Optional[str]       # the model's; none for a comment
     decides: Optional[str]
+    rust: Optional[str]         # what the oracle must answer; none where that says nothing
 
     def name(self):
         return self.text.split(" ", 1)[0]
@@ -34,21 +36,20 @@ class Journal:
         self.apart = False
 
     def comment(self, text):
-        self.lines.append(Line("# " + text, None, None))
+        self.lines.append(Line("# " + text, None, None, None))
 
     def decides(self, name, answer):
-        refused = answer.startswith("refused")
-        if name in CALLS and answer in ("refused 1", "refused 3", "refused 5"):
+        if name in CALLS and answer in ("refused 1", "refused 3", "refused 4", "refused 5"):
             return OUTSIDE
-        if answer == "refused 2" and name != "fresh":
+        if (answer == "refused 2" and name != "fresh") or self.site.passed > MOST_EPOCHS:
             return OUTSIDE
-        if self.site.passed > MOST_EPOCHS:
-            self.apart |= not refused and name == "advance"
-            return OUTSIDE
-        if self.site.n_reached >= model.HALF:
-            self.apart |= name == "advance"
+        if self.site.rust is not None:
             return LISTED
         return APART if self.apart and name in ("image", "nonzero") else RUST
+
+    def wanted(self, answer, decides):
+        """What the oracle must answer."""
+        return {RUST: answer, OUTSIDE: "outside", LISTED: self.site.rust, APART: None}[decides]
 
     def say(self, text):
         """One more line; answers what the model answers. A call finds the same image on both sides."""
@@ -59,7 +60,11 @@ class Journal:
             self.apart = False
         answer = self.site.answer(text)
         self.calls += name in CALLS
-        self.lines.append(Line(text, answer, self.decides(name, answer)))
+        decides = self.decides(name, answer)
+        wanted = self.wanted(answer, decides)
+        self.lines.append(Line(text, answer, decides, wanted))
+        if name in ("advance", "payment") and wanted != answer:
+            self.apart |= answer.startswith("ok") or wanted.startswith("ok")
         return answer
 
     def put(self, words):
@@ -88,10 +93,8 @@ def oracle(text, folder):
 
 
 def agrees(line, rust):
-    """Whether the oracle's answer is the model's, where they must be the same."""
-    if line.decides == RUST:
-        return rust == line.answer
-    return line.decides != OUTSIDE or rust == "outside"
+    """Whether the oracle answers what it must."""
+    return line.rust in (None, rust)
 
 
 def expected(line, rust):

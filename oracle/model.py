@@ -1,19 +1,26 @@
-"""Document 01's fresh, advance and forecast on whole numbers, and the journal's lines around them.
+"""Document 01's fresh, advance, forecast and payment on whole numbers, and the journal's lines around them.
 
-Written from document 01's words. It answers where the Rust can't be asked (checks 1, 2, 3 and 5, very
-many passed epochs), and is compared with the Rust wherever that can be asked.
+Written from document 01's words. It answers where the Rust can't be asked (checks 1 to 5, very many
+passed epochs), and is compared with the Rust wherever that can be asked. Where docs/DIFFERENCES.md lists
+that the Rust goes on, it has both answers, document 01's and the Rust's.
 """
-from typing import NamedTuple
+import copy
+from typing import NamedTuple, Optional
 
 M = 1_000_000
 WORD = 2**64
 HALF = 2**63
 MOST_Y = 10_000
+MOST_POSITIONS = 256
 ZERO_KEY = bytes(32)
 
 
 class Refused(Exception):
     """Its one argument is document 01's number."""
+
+
+class Listed(Refused):
+    """Where the Rust goes on."""
 
 
 def refuse(number, condition):
@@ -55,8 +62,14 @@ class Pool:
     def event(self, index):
         return self.events + index % self.e * (9 + 3 * self.p)
 
+    def key_at(self, at):
+        return b"".join(w.to_bytes(8, "little") for w in self.words[at:at + 4])
+
     def key(self, seat):
-        return b"".join(w.to_bytes(8, "little") for w in self.words[2 + 4 * seat:6 + 4 * seat])
+        return self.key_at(2 + 4 * seat)
+
+    def stake_account(self, seat):
+        return self.key_at(self.stake_accounts + 4 * seat)
 
     def seats(self):
         """The keys up to the first zero key."""
@@ -64,6 +77,15 @@ class Pool:
         while len(keys) < self.p and (key := self.key(len(keys))) != ZERO_KEY:
             keys.append(key)
         return keys
+
+    def seat_of(self, publisher):
+        """Refusals 10 and 11; over all seats, first match."""
+        refuse(10, publisher == ZERO_KEY)
+        wanted = words_of(publisher)
+        for seat in range(self.p):
+            if self.words[2 + 4 * seat:6 + 4 * seat] == wanted:
+                return seat
+        raise Refused(11)
 
 
 class Caps(NamedTuple):
@@ -156,12 +178,6 @@ def adjusted(t, y, claimable, custody):
     return y, t * y // M
 
 
-def settled(pool, passed, t, a):
-    """Other 13, then 14."""
-    refuse(13, t >= WORD or pool.words[pool.n] + passed >= HALF)
-    return adjusted(t, a.y, pool.words[1], a.custody)
-
-
 def write_events(pool, new, seats, passed, y):
     """Each passed epoch's event; those that a later one writes over are left out."""
     last, n = pool.words[0], pool.words[pool.n]
@@ -181,6 +197,93 @@ def write_seats(pool, new, seats, seated):
         new[2 + 4 * seat:6 + 4 * seat] = words_of(key)
 
 
+class Position(NamedTuple):
+    kind: int           # 0 empty, 1 voting, 2 pool
+    amount: int
+    activation: int
+    flag: int
+    start: int
+    key: bytes
+
+
+def positions_of(words):
+    """Refusal 4. Of an empty position only the kind is read."""
+    refuse(4, len(words) % 9 or len(words) > 9 * MOST_POSITIONS)
+    nines = [words[at:at + 9] for at in range(0, len(words), 9)]
+    refuse(4, any(w[0] > 2 or (w[0] and w[3] > 1) for w in nines))
+    return [Position(*w[:5], b"".join(x.to_bytes(8, "little") for x in w[5:])) for w in nines]
+
+
+def state(position, epoch, unlocking):
+    """Item 6."""
+    if epoch < position.activation:
+        return "LOCKING"
+    if position.flag == 0:
+        return "LOCKED"
+    end = position.start + unlocking
+    refuse(13, end >= WORD)
+    if epoch < position.start:
+        return "PREUNLOCKING"
+    return "UNLOCKING" if epoch < end else "UNLOCKED"
+
+
+def walked(pool, epoch):
+    """Item 8: the places of the newest events that are not older than this epoch, and how many events are read, the one too old included."""
+    n, found = pool.words[pool.n], []
+    for back in range(1, min(n, pool.e) + 1):
+        at = pool.event(n - back)
+        if pool.words[at] < epoch:
+            return found, back
+        found.append(at)
+    return found, len(found)
+
+
+def gathered(pool, places, positions, unlocking):
+    """What these positions add to each of the events."""
+    amounts = dict.fromkeys(places, 0)
+    for position in positions:
+        for at in places:
+            if state(position, pool.words[at], unlocking) in ("LOCKED", "PREUNLOCKING"):
+                amounts[at] += position.amount
+    refuse(13, any(amount >= WORD for amount in amounts.values()))
+    return amounts
+
+
+def parts(amount, rate, fee, own):
+    """Item 7, of an amount above 0 at a rate: the delegator's part and the publisher's."""
+    total = amount * rate // M
+    refuse(13, total >= WORD)
+    if own:
+        return total, 0
+    publisher = total * fee // M
+    refuse(13, publisher > total)
+    return total - publisher, publisher
+
+
+class Payment(NamedTuple):
+    now: int
+    publisher: bytes
+    account: bytes
+    record_epoch: int
+    next_index: int
+    publisher_account: Optional[bytes]
+    custody_flag: int       # 0 is absent
+    positions: list         # words
+    unlocking: int
+
+
+def numbers_of(field):
+    """A word list of the journal."""
+    return [] if field == "-" else list(map(int, field.split(",")))
+
+
+def payment_of(fields, unlocking):
+    now, publisher, account, epoch, index, publisher_account, flag, positions = fields
+    other = None if publisher_account == "none" else bytes.fromhex(publisher_account)
+    keys = bytes.fromhex(publisher), bytes.fromhex(account)
+    return Payment(int(now), *keys, int(epoch), int(index), other, int(flag), numbers_of(positions), unlocking)
+
+
 class Site:
     """P, E, the settings and the image, as the journal's lines leave them."""
 
@@ -188,11 +291,17 @@ class Site:
         self.p = self.e = 0
         self.seconds, self.unlocking = 604_800, 1
         self.words = []
-        self.passed = 0     # by the last call, where it got as far as stepping over them
-        self.n_reached = 0  # n with these
+        self.passed = 0             # by the last call, where it got as far as stepping over them
+        self.rust = None            # the Rust's answer to the last call, where document 01 refuses and the Rust goes on
+        self.as_the_rust = False
 
     def pool(self):
         return Pool(self.p, self.e, self.words)
+
+    def listed(self, condition):
+        """13, where the Rust goes on."""
+        if condition and not self.as_the_rust:
+            raise Listed(13)
 
     def new(self, p, e):
         self.p, self.e = p, e
@@ -216,15 +325,20 @@ class Site:
         caps = caps_of(a.message)
         refuse(5, a.y > MOST_Y)
         self.passed = passed_epochs(pool, a, caps)
-        self.n_reached = pool.words[pool.n] + self.passed
         keys = pool.seats()
         return pool, keys, caps.rows, seats_of(pool, keys, caps.rows)
+
+    def settled(self, pool, t, a):
+        """Other 13, then 14."""
+        refuse(13, t >= WORD)
+        self.listed(pool.words[pool.n] + self.passed >= HALF)
+        return adjusted(t, a.y, pool.words[1], a.custody)
 
     def worked_out(self, a):
         """The pool, its seats, the keys that take one, and the answer's values."""
         pool, keys, rows, seats = self.begin(a)
         first, later = seats.sums
-        y, aside = settled(pool, self.passed, first + later * (self.passed - 1), a)
+        y, aside = self.settled(pool, first + later * (self.passed - 1), a)
         matched = rows.keys() & set(keys)
         left = [key for key in rows if key not in matched]
         seated = left[:pool.p - len(keys)]
@@ -245,7 +359,44 @@ class Site:
     def forecast(self, a):
         """Every passed epoch at the rolled totals; no word is written."""
         pool, _, _, seats = self.begin(a)
-        return settled(pool, self.passed, seats.sums[1] * self.passed, a)[1:]
+        return self.settled(pool, seats.sums[1] * self.passed, a)[1:]
+
+    def reward(self, pool, seat, amounts, own):
+        """Item 7 for each event with an amount, added up: the delegator's part and the publisher's."""
+        delegator = publisher = 0
+        for at, amount in amounts.items():
+            if amount == 0:
+                continue
+            share = at + 9 + 3 * seat       # self ratio, other ratio, fee
+            rate = pool.words[at + 1] * pool.words[share if own else share + 1] // M
+            self.listed(rate >= WORD)
+            of_delegator, of_publisher = parts(amount, rate, pool.words[share + 2], own)
+            delegator += of_delegator
+            publisher += of_publisher
+        refuse(13, delegator + publisher >= WORD)
+        return delegator, publisher
+
+    def earned(self, p):
+        """Refusals 1, 4, 10, 11, 12, 13; the pool, the seat's stake account, both parts and the read count."""
+        pool = self.pool().checked()
+        positions = positions_of(p.positions)
+        seat = pool.seat_of(p.publisher)
+        refuse(12, pool.words[0] != p.now)
+        matching = [q for q in positions if q.kind == 2 and q.key == p.publisher]
+        places, reads = walked(pool, p.record_epoch)
+        amounts = gathered(pool, places, matching, p.unlocking)
+        stake_account = pool.stake_account(seat)
+        both = self.reward(pool, seat, amounts, p.account == stake_account)
+        return pool, stake_account, both, reads * len(matching)
+
+    def payment(self, p):
+        """Item 8: those of `earned`, then 16, 17, 18."""
+        pool, stake_account, both, reads = self.earned(p)
+        refuse(16, sum(both) > pool.words[1])
+        refuse(17, stake_account != (ZERO_KEY if p.publisher_account is None else p.publisher_account))
+        refuse(18, p.publisher_account is not None and p.custody_flag == 0)
+        self.words = [p.now, pool.words[1] - sum(both)] + pool.words[2:]
+        return [*both, p.now, p.next_index, reads]
 
     def image(self, words):
         self.words = words
@@ -256,10 +407,12 @@ class Site:
             numbers, digits = fields[:4], fields[4]
             message = b"" if digits == "-" else bytes.fromhex(digits)
             return getattr(self, name)(Advance(*map(int, numbers), message, self.seconds))
+        if name == "payment":
+            return self.payment(payment_of(fields, self.unlocking))
         if name == "nonzero":
             return [f"{i}:{w}" for i, w in enumerate(self.words) if w]
         if name == "image" and fields:
-            return self.image([] if fields[0] == "-" else list(map(int, fields[0].split(","))))
+            return self.image(numbers_of(fields[0]))
         if name == "image":
             return self.words
         if name in ("new", "settings", "fresh"):
@@ -269,8 +422,12 @@ class Site:
     def answer(self, line):
         """The answer to a line of the journal's forms."""
         name, *fields = line.split()
-        self.passed = self.n_reached = 0
+        self.passed, self.rust = 0, None
         try:
             return " ".join(["ok", *map(str, self.values(name, fields))])
         except Refused as r:
+            if isinstance(r, Listed):
+                other = copy.copy(self)
+                other.as_the_rust = True
+                self.rust = other.answer(line)
             return f"refused {r.args[0]}"

@@ -1,0 +1,39 @@
+"""Images and payments written by hand, for the cases and for the table."""
+import model
+import payments
+from model import M, Payment
+
+A, B, C, D, STAKE, ACCOUNT = (bytes([n]).ljust(32, b"\0") for n in (1, 2, 3, 4, 7, 9))
+SHARE = (M, 500_000, 200_000)       # self ratio, other ratio, fee
+
+
+def last_byte(key):
+    """A key that differs in the last byte alone."""
+    return key[:31] + bytes([key[31] ^ 1])
+
+
+def pool(epochs=(9, 8, 7, 6), p=1, e=4, n=None, last=10, claimable=M, keys=(A,), stakes=(STAKE,), y=10_000, shares=(SHARE,), unread=0):
+    """The words of an image by its newest events, newest first; an epoch may come with its own y and shares. Slots never written hold `unread`."""
+    found = model.Pool(p, e, [0] * model.length(p, e))
+    words = found.words
+    words[found.events:found.n] = [unread] * (found.n - found.events)
+    words[0], words[1], words[found.n] = last, claimable, len(epochs) if n is None else n
+    for at, listed in ((2, keys), (found.stake_accounts, stakes)):
+        words[at:at + 4 * len(listed)] = [w for key in listed for w in model.words_of(key)]
+    for j, event in enumerate(epochs):
+        epoch, its_y, its_shares = event if isinstance(event, tuple) else (event, y, shares)
+        at = found.event(words[found.n] - 1 - j)
+        figures = [figure for share in its_shares for figure in share]
+        words[at:at + 9 + len(figures)] = [epoch, its_y] + [0] * 7 + figures
+    return words
+
+
+def stake(amount, activation=0, start=None, kind=2, key=A):
+    """A position's nine words."""
+    return payments.position(key, amount, activation, start, kind)
+
+
+def payment(*positions, now=10, publisher=A, account=ACCOUNT, epoch=0, index=3, other=STAKE, flag=1, words=None):
+    """A payment's line; its positions as one list of words where they are no positions."""
+    words = [w for nine in positions for w in nine] if words is None else words
+    return payments.line(Payment(now, publisher, account, epoch, index, other, flag, words, 0))

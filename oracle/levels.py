@@ -1,0 +1,20 @@
+"""The levels: what a level's journals are made of, and how often each list comes. A level has the calls of those before it too."""
+from generate import Generator
+from payments import Payments
+
+LEVELS = {
+    "watch": (Generator, [(50, Generator.grown_list), (40, Generator.made_up_list), (4, Generator.sum_at_the_edge),
+                          (9, Generator.other_image), (2, Generator.other_sizes)]),
+    "pay": (Payments, [(18, Payments.grown_list), (9, Payments.made_up_list), (2, Payments.sum_at_the_edge), (3, Payments.other_image),
+                       (1, Payments.other_sizes), (40, Payments.paid_list), (9, Payments.slot_at_the_edge),
+                       (9, Payments.parts_at_the_edge), (12, Payments.event_at_the_edge), (9, Payments.start_at_the_edge)]),
+}
+
+
+def write(journal, level, seed, size, settings, calls):
+    """A journal of at least so many calls on pools of one size, under one epoch length and unlocking length."""
+    kind, lists = LEVELS[level]
+    generator = kind(journal, seed, *size, *settings)
+    weights, lists = zip(*lists)
+    while journal.calls < calls:
+        generator.r.choices(lists, weights)[0](generator)
