@@ -7,8 +7,8 @@ use native.Mathlib.Decide.{ℕ-discrete}
 use native.Mathlib.Omega.{arith}
 use lib.Dec.{ltb}
 use lib.ListN.{getD}
-use borrow.Author.Tests.{eq-eqb, ne-eqb, lt-ltb, ltb-false}
-use Rattle.types.proofs.Below.{NoneBelow, first-at, first-none, first-le, first-before}
+use borrow.Author.Tests.{eq-eqb, ne-eqb, lt-ltb}
+use Rattle.types.proofs.Below.{NoneBelow, first-at, first-none, first-le}
 use Rattle.image.specs.Layout.{numEvents, eventEpoch, head, slot, Words, eventAt, numEventsAt, read}
 use Rattle.image.proofs.SeatLaws.{read-at}
 use Rattle.event_walk.specs.Walk.{walkLength, walkSlot, walkEpoch, walkMeets, walkReads}
@@ -96,10 +96,6 @@ module _ (E : ℕ) (w : Words) where
     pub meets-le : walkMeets E w from ≤ walkLength E w
     unfolding walkMeets
     meets-le = first-le (walkLength E w) (λ j. ltb (walkEpoch E w j) from)
-
-    pub meets-young : (k : ℕ) → k < walkMeets E w from → from ≤ walkEpoch E w k
-    unfolding walkMeets
-    meets-young k l = ltb-false _ _ (first-before (walkLength E w) k (λ j. ltb (walkEpoch E w j) from) l)
 
     pub reads-at : (k : ℕ) → k < walkLength E w → k ≡ walkMeets E w from → k + 1 ≡ walkReads E w from
     unfolding walkReads

@@ -1,13 +1,14 @@
 // The program over the journal: it reads a line's fields, makes the call, and writes its answer.
 mod calls;
+mod image_calls;
+mod pool_calls;
+mod site;
 
 ghost use mathlib.Core.Path.{_≡_};
 ghost use Prim.Native.Nat.{_≤_, _<_};
 ghost use lib.ListN.{length};
 ghost use Rattle.journal.specs.Held.{Unread};
 ghost use Rattle.mirror.specs.Site.{Ready, Kept, Held, Carried, Roomy};
-use calls::Done;
-use calls::Site;
 use journal::answer;
 use journal::fields;
 use journal::input;
@@ -15,6 +16,8 @@ use journal::line;
 use journal::line::Line;
 use journal::output;
 use journal::output::Pen;
+use site::Done;
+use site::Site;
 
 // What a run carries from line to line: unread input, the line's number, the site, the pen, and whether it goes on.
 pub struct State {

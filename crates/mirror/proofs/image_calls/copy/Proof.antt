@@ -1,4 +1,4 @@
--- `mirror::calls::copy` meets its contract. Assumes nothing.
+-- `mirror::image_calls::copy` meets its contract. Assumes nothing.
 use Prim.Native.Nat.{_≤_, _-_}
 use mathlib.Core.Path.{_≡_, refl}
 use lib.ListN.{length, length-set}
@@ -7,8 +7,8 @@ use Rattle.journal.proofs.FieldsLaws.{paste-more}
 use Rattle.mirror.proofs.SiteLaws.{copied}
 use borrow.Author.Needs.{needs}
 use native.Mathlib.Omega.{arith}
-use Rattle.mirror.proofs.calls.copy.Statement.{statement}
-use Rattle.mirror.proofs.calls.copy.Tie as tie
+use Rattle.mirror.proofs.image_calls.copy.Statement.{statement}
+use Rattle.mirror.proofs.image_calls.copy.Tie as tie
 
 abbrev Inv-loop : tie.InvT-loop
 Inv-loop words pool₀ i₀ pool i = (i ≤ length words) × (length pool ≡ length pool₀) × (pool ≡ paste pool₀ 0 words i)

@@ -1,9 +1,9 @@
--- `mirror::calls::new` meets its contract. Assumes nothing.
+-- `mirror::site::new` meets its contract. Assumes nothing.
 use lib.ListN.{length-take}
 use native.Mathlib.Omega.{arith}
 use borrow.Author.Needs.{needs}
-use Rattle.mirror.proofs.calls.new.Statement.{statement}
-use Rattle.mirror.proofs.calls.new.Tie as tie
+use Rattle.mirror.proofs.site.new.Statement.{statement}
+use Rattle.mirror.proofs.site.new.Tie as tie
 
 array-read-p : tie.Need-array-read-p
 array-read-p c = search needs

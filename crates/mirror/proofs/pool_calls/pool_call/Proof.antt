@@ -1,9 +1,9 @@
--- `mirror::calls::pool_call` meets its contract. Assumes nothing.
+-- `mirror::pool_calls::pool_call` meets its contract. Assumes nothing.
 use lib.ListN.{length-take}
 use native.Mathlib.Omega.{arith}
 use borrow.Author.Needs.{needs}
-use Rattle.mirror.proofs.calls.pool_call.Statement.{statement}
-use Rattle.mirror.proofs.calls.pool_call.Tie as tie
+use Rattle.mirror.proofs.pool_calls.pool_call.Statement.{statement}
+use Rattle.mirror.proofs.pool_calls.pool_call.Tie as tie
 
 slice-relend-prefix-image : tie.Need-slice-relend-prefix-image
 slice-relend-prefix-image c = search needs

@@ -1,10 +1,10 @@
--- `mirror::calls::nonzero` meets its contract. Assumes nothing.
+-- `mirror::image_calls::nonzero` meets its contract. Assumes nothing.
 use Prim.Native.Nat.{_≤_, _-_}
 use mathlib.Core.Path.{_≡_}
 use lib.ListN.{length}
 use borrow.Author.Needs.{needs}
-use Rattle.mirror.proofs.calls.nonzero.Statement.{statement}
-use Rattle.mirror.proofs.calls.nonzero.Tie as tie
+use Rattle.mirror.proofs.image_calls.nonzero.Statement.{statement}
+use Rattle.mirror.proofs.image_calls.nonzero.Tie as tie
 
 abbrev Inv-loop : tie.InvT-loop
 Inv-loop image out₀ next₀ i₀ out next i = (length out ≡ length out₀) × (next .at ≤ length out₀) × (i ≤ length image)

@@ -1,11 +1,11 @@
--- `mirror::calls::next_nonzero` meets its contract. Assumes nothing.
+-- `mirror::image_calls::next_nonzero` meets its contract. Assumes nothing.
 use Prim.Native.Nat.{_-_}
 use lib.ListN.{length}
 use Rattle.mirror.proofs.SiteLaws.{Passed, passed-none, passed-more, next-here, next-none}
 use borrow.Author.Needs.{needs}
 use native.Mathlib.Omega.{arith}
-use Rattle.mirror.proofs.calls.next_nonzero.Statement.{statement}
-use Rattle.mirror.proofs.calls.next_nonzero.Tie as tie
+use Rattle.mirror.proofs.image_calls.next_nonzero.Statement.{statement}
+use Rattle.mirror.proofs.image_calls.next_nonzero.Tie as tie
 
 abbrev Inv-loop : tie.InvT-loop
 Inv-loop image from i₀ i = Passed image from i

@@ -1,9 +1,9 @@
--- `mirror::calls::image_call` meets its contract. Assumes nothing.
+-- `mirror::image_calls::image_call` meets its contract. Assumes nothing.
 use lib.ListN.{length-take}
 use native.Mathlib.Omega.{arith}
 use borrow.Author.Needs.{needs}
-use Rattle.mirror.proofs.calls.image_call.Statement.{statement}
-use Rattle.mirror.proofs.calls.image_call.Tie as tie
+use Rattle.mirror.proofs.image_calls.image_call.Statement.{statement}
+use Rattle.mirror.proofs.image_calls.image_call.Tie as tie
 
 take-image-requires : tie.Need-take-image-requires
 take-image-requires c κs = search needs

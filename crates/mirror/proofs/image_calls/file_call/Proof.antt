@@ -1,9 +1,9 @@
--- `mirror::calls::file_call` meets its contract. Assumes nothing.
+-- `mirror::image_calls::file_call` meets its contract. Assumes nothing.
 use lib.ListN.{length-take}
 use native.Mathlib.Omega.{arith}
 use borrow.Author.Needs.{needs}
-use Rattle.mirror.proofs.calls.file_call.Statement.{statement}
-use Rattle.mirror.proofs.calls.file_call.Tie as tie
+use Rattle.mirror.proofs.image_calls.file_call.Statement.{statement}
+use Rattle.mirror.proofs.image_calls.file_call.Tie as tie
 
 load-requires : tie.Need-load-requires
 load-requires c κs = search needs

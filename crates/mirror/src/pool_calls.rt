@@ -1,0 +1,212 @@
+// The calls that the library answers.
+ghost use mathlib.Core.Path.{_≡_};
+ghost use Prim.Native.Nat.{_≤_, _<_};
+ghost use lib.ListN.{length};
+ghost use Rattle.journal.specs.Held.{Writable};
+ghost use Rattle.mirror.specs.Site.{Ready, Kept, keyAt, keyOrNone};
+use crate::site::Done;
+use crate::site::Site;
+use crate::site::finished;
+use integrity_pool::FreshAnswer;
+use integrity_pool::payment;
+use integrity_pool::payment::Claim;
+use integrity_pool::payment::DelegationRecord;
+use integrity_pool::payment::PaymentAnswer;
+use journal::answer;
+use journal::calls;
+use journal::output::Pen;
+use pool::advance::AdvanceAnswer;
+use pool::advance::ForecastAnswer;
+use positions::Key;
+use positions::OptionKey;
+use types::Epoch;
+
+// fresh EPOCH
+fn fresh(site: Site, args: [u64; 50], image: &mut [u64], out: &mut [u8], pen: Pen) -> Pen
+    requires { ⌜ Writable (pen .at) (length (now out)) ⌝ }
+    ensures { λ r. ⌜ r .at ≤ length (now (out .entry)) ⌝ }
+{
+    match integrity_pool::fresh(image, site.p, site.e, args[0]) {
+        FreshAnswer::Done => answer::ok(out, pen, &[]),
+        FreshAnswer::Refused(n) => answer::refused(out, pen, n),
+    }
+}
+
+// advance NOW Y CUSTODY VERIFIED CAPS
+fn advance(
+    site: Site,
+    args: [u64; 50],
+    message: &[u8],
+    image: &mut [u64],
+    out: &mut [u8],
+    pen: Pen,
+) -> Pen
+    requires { ⌜ Writable (pen .at) (length (now out)) ⌝ }
+    ensures { λ r. ⌜ r .at ≤ length (now (out .entry)) ⌝ }
+{
+    let given = site.given(args);
+    match integrity_pool::advance(image, site.p, site.e, message, given) {
+        AdvanceAnswer::Done {
+            y,
+            set_aside,
+            matched,
+            seated,
+            dropped,
+        } => answer::ok(out, pen, &[y.0, set_aside.0, matched, seated, dropped]),
+        AdvanceAnswer::Refused(n) => answer::refused(out, pen, n),
+    }
+}
+
+// forecast NOW Y CUSTODY VERIFIED CAPS
+fn forecast(
+    site: Site,
+    args: [u64; 50],
+    message: &[u8],
+    image: &[u64],
+    out: &mut [u8],
+    pen: Pen,
+) -> Pen
+    requires { ⌜ Writable (pen .at) (length (now out)) ⌝ }
+    ensures { λ r. ⌜ r .at ≤ length (now (out .entry)) ⌝ }
+{
+    let given = site.given(args);
+    match integrity_pool::forecast(image, site.p, site.e, message, given) {
+        ForecastAnswer::SetsAside(amount) => answer::ok(out, pen, &[amount.0]),
+        ForecastAnswer::Refused(n) => answer::refused(out, pen, n),
+    }
+}
+
+// The key of field k.
+fn key(args: [u64; 50], k: usize) -> Key
+    requires { ⌜ k < 10 ⌝ }
+    ensures { λ r. ⌜ r ≡ keyAt args k ⌝ }
+{
+    let i = 10 + k * 4;
+    Key(args[i], args[i + 1], args[i + 2], args[i + 3])
+}
+
+// The key of field k, or none.
+fn key_or_none(args: [u64; 50], k: usize) -> OptionKey
+    requires { ⌜ k < 10 ⌝ }
+    ensures { λ r. ⌜ r ≡ keyOrNone args k ⌝ }
+{
+    if args[k] == 0 {
+        return OptionKey::None;
+    }
+    OptionKey::Some(key(args, k))
+}
+
+// What a payment is given besides the image and the positions.
+fn claim(args: [u64; 50], unlocking_duration: u64) -> Claim {
+    let found = DelegationRecord {
+        last_epoch: Epoch(args[3]),
+        next_slash_event_index: args[4],
+    };
+    let publisher = key(args, 1);
+    let account = key(args, 2);
+    let publisher_account = key_or_none(args, 5);
+    Claim {
+        delegation_record: found,
+        publisher,
+        stake_account_positions: account,
+        publisher_stake_account_positions: publisher_account,
+        publisher_stake_account_custody: args[6],
+        current_epoch: args[0],
+        unlocking_duration,
+    }
+}
+
+// payment NOW PUBLISHER ACCOUNT RECORD_EPOCH NEXT_INDEX PUBLISHER_ACCOUNT CUSTODY_FLAG POSITIONS
+fn payment(
+    site: Site,
+    args: [u64; 50],
+    positions: &[u64],
+    image: &mut [u64],
+    out: &mut [u8],
+    pen: Pen,
+) -> Pen
+    requires { ⌜ Writable (pen .at) (length (now out)) ⌝ }
+    ensures { λ r. ⌜ r .at ≤ length (now (out .entry)) ⌝ }
+{
+    let claim = claim(args, site.unlocking_duration);
+    match payment::advance_delegation_record(image, site.p, site.e, positions, claim) {
+        PaymentAnswer::Paid {
+            delegator_reward,
+            publisher_reward,
+            custody_fall: _,
+            delegation_record,
+            reads,
+        } => {
+            let next = delegation_record.next_slash_event_index;
+            let last = delegation_record.last_epoch.0;
+            answer::ok(
+                out,
+                pen,
+                &[delegator_reward.0, publisher_reward.0, last, next, reads],
+            )
+        }
+        PaymentAnswer::Refused(n) => answer::refused(out, pen, n),
+    }
+}
+
+// Calls that close epochs.
+fn epoch_call(
+    call: usize,
+    site: Site,
+    args: [u64; 50],
+    message: &[u8],
+    image: &mut [u64],
+    out: &mut [u8],
+    pen: Pen,
+) -> Pen
+    requires { ⌜ Writable (pen .at) (length (now out)) ⌝ }
+    ensures { λ r. ⌜ r .at ≤ length (now (out .entry)) ⌝ }
+{
+    if call == calls::FRESH {
+        return fresh(site, args, image, out, pen);
+    }
+    if call == calls::ADVANCE {
+        return advance(site, args, message, image, out, pen);
+    }
+    forecast(site, args, message, image, out, pen)
+}
+
+// Calls that the library answers.
+fn ask(
+    call: usize,
+    site: Site,
+    args: [u64; 50],
+    message: &[u8],
+    positions: &[u64],
+    image: &mut [u64],
+    out: &mut [u8],
+    pen: Pen,
+) -> Pen
+    requires { ⌜ Writable (pen .at) (length (now out)) ⌝ }
+    ensures { λ r. ⌜ r .at ≤ length (now (out .entry)) ⌝ }
+{
+    if call == calls::PAYMENT {
+        return payment(site, args, positions, image, out, pen);
+    }
+    epoch_call(call, site, args, message, image, out, pen)
+}
+
+// Calls on the pool.
+pub fn pool_call(
+    call: usize,
+    site: Site,
+    args: [u64; 50],
+    message: &[u8],
+    positions: &[u64],
+    pool: &mut [u64],
+    out: &mut [u8],
+    pen: Pen,
+) -> Done
+    requires { ⌜ Ready (site .size) (pen .at) (length (now pool)) (length (now out)) ⌝ }
+    ensures { λ r. ⌜ Kept (r .site .size) (r .pen .at) (length (now (pool .entry))) (length (now (out .entry))) ⌝ }
+{
+    let size = site.size;
+    let image = &mut pool[..size];
+    let told = ask(call, site, args, message, positions, image, out, pen);
+    finished(site, told, 0)
+}
