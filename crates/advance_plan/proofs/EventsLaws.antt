@@ -4,10 +4,11 @@ use mathlib.Core.Path.{_≡_, refl, sym, _∙_, ap, ap₂}
 use mathlib.Core.Logic.{_⊎_, inl, inr, ⊎-elim}
 use mathlib.Core.Bool.{Bool, true, false}
 use mathlib.Core.List.{List}
-use Prim.Native.Nat.{ℕ, zero, suc, _+_, _-_, _%_, _≤_, _<_}
-use native.Mathlib.Nat.{mod-eq-of-lt}
+use Prim.Native.Nat.{ℕ, zero, suc, _+_, _-_, _*_, _%_, _≤_, _<_}
+use native.Mathlib.Nat.{mod-lt, mod-eq-of-lt}
 use native.Mathlib.Decide.{ℕ-discrete}
 use native.Mathlib.Omega.{arith}
+use lib.Arith.{digits-mod}
 use lib.Dec.{eqb, ltb}
 use borrow.Author.Tests.{le-ltb, eq-eqb, ne-eqb}
 use Rattle.types.specs.Base.{if_then_else_}
@@ -43,6 +44,17 @@ unfolding age
 age-unwritten E n t lt h =
     let q : (n + (E - 1 - t)) % E ≡ n + (E - 1 - t) = mod-eq-of-lt (omega arith) in
     omega arith
+
+-- one that an event has gone to
+pub age-written : (E n t : ℕ) → t < E → t < n → age E n t < n
+unfolding age
+age-written E n t lt h = ⊎-elim
+    (λ l.
+    let q : n + (E - 1 - t) ≡ 1 * E + (n - 1 - t) = omega arith in
+    let r : (n + (E - 1 - t)) % E ≡ n - 1 - t = ap (λ (k : ℕ). k % E) q ∙ digits-mod 1 (omega arith) in
+    omega arith)
+    (λ l. let b : (n + (E - 1 - t)) % E < E = mod-lt (n + (E - 1 - t)) (omega arith) in omega arith)
+    (lt-or-le n E)
 
 -- ---- one event
 

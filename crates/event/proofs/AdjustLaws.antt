@@ -49,16 +49,17 @@ lowered-aside-le T y A R e h =
     let small : T * (y * A / R) / M < A + 1 = div-lt-iff-lt-mul {k = M} {x = T * (y * A / R)} {y = A + 1} (omega arith) .1 (aside-core T y A R (y * A / R) (div-mul-le-self (y * A) R) total h) in
     omega arith
 
--- what an accepted adjustment keeps: y does not grow, and claimable with what is set aside stays within custody
-pub record Kept (y f b : ℕ) (r : Adjustment) : Type 0 where
+-- what an accepted adjustment keeps: y does not grow, y' is what the amount is set aside for, and claimable with it stays within custody
+pub record Kept (T y f b : ℕ) (r : Adjustment) : Type 0 where
   pub y-le : r .y ≤ y
+  pub aside : r .setAside ≡ rewardsOf T (r .y)
   pub covered : f + r .setAside ≤ b
 
 -- what an answer tells
 abbrev Tells : (T y f b : ℕ) → Outcome Adjustment → Type 0
 Tells T y f b (refused k) =
     ((k ≡ doesNotFit) × (word ≤ rewardsOf T y + f)) ⊎ ((k ≡ claimableOverCustody) × ((rewardsOf T y + f < word) × (b < f)))
-Tells T y f b (accepted r) = Kept y f b r
+Tells T y f b (accepted r) = Kept T y f b r
 
 module _ (T y f b : ℕ) where
   adjust-tells : Tells T y f b (adjustOf T y f b)
@@ -72,17 +73,18 @@ module _ (T y f b : ℕ) where
           else if t₃ then refused claimableOverCustody
           else accepted (loweredBy T y (b - f) (rewardsOf T y)))
       go true h₁ t₂ h₂ t₃ h₃ = inl (refl, leb-true word (rewardsOf T y + f) h₁)
-      go false h₁ true h₂ t₃ h₃ = record { y-le = le-refl y; covered = omega (arith, leb-true (rewardsOf T y + f) b h₂) }
+      go false h₁ true h₂ t₃ h₃ = record { y-le = le-refl y; aside = refl; covered = omega (arith, leb-true (rewardsOf T y + f) b h₂) }
       go false h₁ false h₂ true h₃ = inr (refl, (leb-false word (rewardsOf T y + f) h₁, ltb-true b f h₃))
       go false h₁ false h₂ false h₃ =
           let k : b < rewardsOf T y + f = leb-false (rewardsOf T y + f) b h₂ in
           let l : f ≤ b = ltb-false b f h₃ in
           record {
             y-le = lowered-y-le y (b - f) (rewardsOf T y) (omega arith);
+            aside = refl;
             covered = omega (arith, lowered-aside-le T y (b - f) (rewardsOf T y) refl (omega arith));
           }
 
-  pub adjust-keeps : (r : Adjustment) → adjustOf T y f b ≡ accepted r → Kept y f b r
+  pub adjust-keeps : (r : Adjustment) → adjustOf T y f b ≡ accepted r → Kept T y f b r
   adjust-keeps r e = subst (Tells T y f b) e adjust-tells
 
   -- each refusal only by its condition

@@ -2,7 +2,7 @@
 use mathlib.Core.Path.{_≡_, ap, _∙_}
 use mathlib.Core.Logic.{⊎-elim}
 use Prim.Native.Nat.{ℕ, _+_, _-_, _*_, _/_, _≤_, _<_, min}
-use native.Mathlib.Nat.{eq-zero-or-pos, mul-zero, zero-div, mul-le-mul-left, mul-div-cancel, div-le-of-le-mul}
+use native.Mathlib.Nat.{eq-zero-or-pos, mul-zero, zero-div, mul-le-mul-left, mul-div-le, mul-div-cancel, div-le-of-le-mul}
 use native.Mathlib.Omega.{arith}
 use borrow.Author.Tests.{eq-eqb, ne-eqb}
 use Rattle.types.specs.Base.{M}
@@ -28,6 +28,10 @@ ratio-whole p t h e = ratio-some p t h ∙ ap (λ (x : ℕ). M * x / t) e ∙ mu
 -- a part of a total is at most a whole
 pub ratio-le : (p t : ℕ) → p ≤ t → ratioOf p t ≤ M
 ratio-le p t h = ⊎-elim (λ z. rw (ratio-empty p t z) (omega arith)) (λ k. rw (ratio-some p t k) (div-le-of-le-mul t {m = M * p} {n = M} (omega (arith, mul-le-mul-left M h)))) (eq-zero-or-pos t)
+
+-- the ratio of what is eligible is rounded down
+pub ratio-part : (p t : ℕ) → t * ratioOf p t ≤ M * p
+ratio-part p t = ⊎-elim (λ z. rw (ratio-empty p t z) (omega arith)) (λ k. rw (ratio-some p t k) (mul-div-le (M * p) t)) (eq-zero-or-pos t)
 
 -- each side's eligible amount is at most its total
 module _ (cap selfTotal otherTotal : ℕ) where

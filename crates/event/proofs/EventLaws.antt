@@ -3,7 +3,7 @@ use mathlib.Core.Path.{_≡_, refl, sym, subst}
 use mathlib.Core.Logic.{_⊎_, inl, inr}
 use mathlib.Core.Bool.{Bool, true, false}
 use Prim.Native.Nat.{ℕ, _+_, _-_, _*_, _/_, _≤_, _<_}
-use native.Mathlib.Nat.{add-zero, zero-mul, zero-div, le-div-iff-mul-le, div-mul-le-self}
+use native.Mathlib.Nat.{add-zero, zero-mul, mul-zero, zero-div, mul-le-mul-right, le-div-iff-mul-le, div-mul-le-self}
 use native.Mathlib.Omega.{arith}
 use lib.Dec.{eqb, leb, ltb}
 use borrow.Author.Tests.{le-leb, lt-leb, lt-ltb, le-ltb, eq-eqb, ne-eqb, leb-true, leb-false, ltb-true, ltb-false, eqb-true, eqb-false}
@@ -125,6 +125,20 @@ event-adds e a selfSide p q = reward-adds a _ _ _ selfSide p q
 pub event-none : (e : Event) (a : ℕ) (selfSide : Bool) → a ≡ 0 → accepted (record { delegator = 0; publisher = 0 }) ≡ eventReward e a selfSide
 unfolding eventReward
 event-none e a selfSide z = sym (reward-none a _ _ _ selfSide z)
+
+-- at rate 0 nothing is earned, and ratio 0 gives that rate
+pub total-no-rate : (a rate : ℕ) → rate ≡ 0 → totalOf a rate ≡ 0
+unfolding totalOf
+total-no-rate a rate z = rw (z, mul-zero a, zero-div M)
+
+pub rate-no-ratio : (y ratio : ℕ) → ratio ≡ 0 → rateOf y ratio ≡ 0
+unfolding rateOf
+rate-no-ratio y ratio z = rw (z, mul-zero y, zero-div M)
+
+-- a larger amount earns no less
+pub total-le : (a b rate : ℕ) → a ≤ b → totalOf a rate ≤ totalOf b rate
+unfolding totalOf
+total-le a b rate l = omega (arith, mul-le-mul-right rate l)
 
 -- ---- what amounts earn apart is at most what they earn together
 

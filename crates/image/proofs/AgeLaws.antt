@@ -1,7 +1,7 @@
 -- The ring: how old the event in a slot is, counted back from the newest. Assumes nothing.
 use mathlib.Core.Path.{_≡_, sym, _∙_, ap}
-use Prim.Native.Nat.{ℕ, suc, _+_, _-_, _*_, _/_, _%_, _≤_, _<_}
-use native.Mathlib.Nat.{mod-lt, suc-mod, mod-self, mod-eq-of-lt, div-add-mod'}
+use Prim.Native.Nat.{ℕ, zero, suc, _+_, _-_, _*_, _/_, _%_, _≤_, _<_}
+use native.Mathlib.Nat.{suc-mul, mod-lt, suc-mod, mod-self, mod-eq-of-lt, div-add-mod'}
 use native.Mathlib.Numerals.{add-one}
 use native.Mathlib.Omega.{arith}
 use lib.Arith.{digits-mod}
@@ -58,3 +58,21 @@ age-of e m j h b c =
     let l : i % e < e = mod-lt i h in
     let q : m + (e - 1 - i % e) ≡ suc (i / e) * e + j = omega (arith, div-add-mod' i e) in
     ap (λ (k : ℕ). k % e) q ∙ digits-mod (suc (i / e)) b
+
+-- and the other way: a slot that has an event is the one of that event's age
+pub slot-of : (e m s : ℕ) → 1 ≤ e → s < e → age e m s < m → s ≡ (m - 1 - age e m s) % e
+unfolding age
+slot-of e m s h b l =
+    let k : ℕ = m + (e - 1 - s) in
+    let d = div-add-mod' k e in
+    let some : 1 ≤ k / e = more (k / e) d in
+    let q : m - 1 - k % e ≡ (k / e - 1) * e + s = less (k / e) d some in
+    sym (ap (λ (i : ℕ). i % e) q ∙ digits-mod (k / e - 1) b)
+  where
+    more : (d : ℕ) → d * e + (m + (e - 1 - s)) % e ≡ m + (e - 1 - s) → 1 ≤ d
+    more zero q = absurd (omega arith)
+    more (suc d) q = omega arith
+
+    less : (d : ℕ) → d * e + (m + (e - 1 - s)) % e ≡ m + (e - 1 - s) → 1 ≤ d → m - 1 - (m + (e - 1 - s)) % e ≡ (d - 1) * e + s
+    less zero q r = absurd (omega arith)
+    less (suc d) q r = let z : suc d - 1 ≡ d = omega arith in rw z (omega (arith, suc-mul d e))

@@ -1,8 +1,8 @@
 -- Sums, tests, counts and the first that passes, over the numbers below n, one number more. Assumes nothing.
 use mathlib.Core.Path.{_≡_, refl, sym, ap, _∙_}
 use mathlib.Core.Bool.{Bool, true, false, _&&_, _||_}
-use Prim.Native.Nat.{ℕ, zero, suc, _+_, _*_, _≤_, _<_}
-use native.Mathlib.Nat.{add-mul, add-le-add}
+use Prim.Native.Nat.{ℕ, zero, suc, _+_, _-_, _*_, _≤_, _<_, zero-le, suc-le-suc}
+use native.Mathlib.Nat.{add-zero, add-suc, add-mul, add-le-add, sub-zero}
 use native.Mathlib.Numerals.{add-one}
 use native.Mathlib.Decide.{ℕ-discrete}
 use native.Mathlib.Omega.{arith}
@@ -62,6 +62,48 @@ sum-skips f m (suc n) h e = go (ℕ-discrete m (suc n)) (λ l. sum-skips f m n l
     go : Dec (m ≡ suc n) → (m ≤ n → sumBelow n f ≡ sumBelow m f) → sumBelow n f + f n ≡ sumBelow m f
     go (yes q) r = sym (ap (λ (k : ℕ). sumBelow k f) q)
     go (no q) r = omega (arith, r (omega arith), e n (omega arith) (omega arith))
+
+-- the first m terms, then the others
+pub sum-after : (f : ℕ → ℕ) (m n : ℕ) → sumBelow (m + n) f ≡ sumBelow m f + sumBelow n (λ i. f (m + i))
+unfolding sumBelow
+sum-after f m zero = rw (add-zero m) (sym (add-zero (sumBelow m f)))
+sum-after f m (suc n) = rw (add-suc m n) (omega (arith, sum-after f m n))
+
+pub sum-le : (f g : ℕ → ℕ) (n : ℕ) → ((i : ℕ) → i < n → f i ≤ g i) → sumBelow n f ≤ sumBelow n g
+unfolding sumBelow
+sum-le f g zero h = omega arith
+sum-le f g (suc n) h = omega (arith, sum-le f g n (λ i l. h i (omega arith)), h n (omega arith))
+
+-- two sums of the same numbers
+pub sums-le : (f g h : ℕ → ℕ) (n : ℕ) → ((i : ℕ) → i < n → f i + g i ≤ h i) → sumBelow n f + sumBelow n g ≤ sumBelow n h
+unfolding sumBelow
+sums-le f g h zero e = omega arith
+sums-le f g h (suc n) e = omega (arith, sums-le f g h n (λ i l. e i (omega arith)), e n (omega arith))
+
+-- what bounds each term bounds the sum
+pub sum-scaled : (c y : ℕ) (f g : ℕ → ℕ) (n : ℕ) → ((i : ℕ) → i < n → c * f i ≤ y * g i) → c * sumBelow n f ≤ y * sumBelow n g
+unfolding sumBelow
+sum-scaled c y f g zero h = omega arith
+sum-scaled c y f g (suc n) h = omega (arith, sum-scaled c y f g n (λ i l. h i (omega arith)), h n (omega arith))
+
+-- one term is at most the whole
+pub sum-term : (f : ℕ → ℕ) (n i : ℕ) → i < n → f i ≤ sumBelow n f
+unfolding sumBelow
+sum-term f zero i l = absurd (omega arith)
+sum-term f (suc n) i l = go (ℕ-discrete i n) (sum-term f n i)
+  where
+    go : Dec (i ≡ n) → (i < n → f i ≤ sumBelow n f) → f i ≤ sumBelow n f + f n
+    go (yes q) r = omega (arith, ap f q)
+    go (no q) r = omega (arith, r (omega arith))
+
+-- the last m terms, counted down, and the others in front of them
+pub sum-down : (f : ℕ → ℕ) (m n : ℕ) → m ≤ n → sumBelow m (λ k. f (n - 1 - k)) + sumBelow (n - m) f ≡ sumBelow n f
+unfolding sumBelow
+sum-down f zero n l = omega (arith, ap (λ (k : ℕ). sumBelow k f) (sub-zero n))
+sum-down f (suc m) n l =
+    let q : n - m ≡ suc (n - suc m) = omega arith in
+    let p : n - 1 - m ≡ n - suc m = omega arith in
+    omega (arith, sum-down f m n (omega arith), ap (λ (k : ℕ). sumBelow k f) q, ap f p)
 
 -- ---- a test of every number
 
@@ -210,3 +252,16 @@ first-before (suc n) i f l = go i (f 0) refl l (λ j b. first-before n j (λ i. 
     go i true e l r = absurd (omega arith)
     go zero false e l r = e
     go (suc i) false e l r = r i (omega arith)
+
+pub first-same : (n : ℕ) (f g : ℕ → Bool) → ((i : ℕ) → i < n → f i ≡ g i) → firstBelow n f ≡ firstBelow n g
+unfolding firstBelow
+first-same zero f g h = refl
+first-same (suc n) f g h = rw (h 0 (omega arith), first-same n (λ i. f (suc i)) (λ i. g (suc i)) (λ i l. h (suc i) (omega arith)))
+
+-- the first number that passes a test is past those that fail it
+pub first-past : (n m : ℕ) (f : ℕ → Bool) → m ≤ n → NoneBelow f m → m ≤ firstBelow n f
+unfolding firstBelow
+first-past n zero f l h = zero-le
+first-past zero (suc m) f l h = absurd (omega arith)
+first-past (suc n) (suc m) f l h =
+    rw (h .none 0 (omega arith)) (suc-le-suc (first-past n m (λ j. f (suc j)) (omega arith) (record { none = λ j k. h .none (suc j) (omega arith) })))
