@@ -7,4 +7,6 @@ pub mod HoldsLaws
 pub mod PlaceLaws
 pub mod SeatLaws
 pub mod WriteLaws
+pub mod ChangeWrites
 pub mod PartLaws
+pub mod ChangeLaws

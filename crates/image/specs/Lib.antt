@@ -1,3 +1,4 @@
 pub mod Layout
 pub mod Seats
 pub mod Lists
+pub mod Changes

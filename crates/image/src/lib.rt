@@ -4,6 +4,7 @@ ghost use Prim.Native.Nat.{_≤_};
 ghost use Rattle.image.specs.Layout.{eventAt, numEventsAt};
 ghost use Rattle.image.specs.Seats.{sizeOf, sizedImage, checkedImage, Cleared};
 
+pub mod changes;
 pub mod seats;
 
 pub const MAX_PUBLISHERS: usize = 1024;

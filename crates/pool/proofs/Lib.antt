@@ -1,3 +1,4 @@
 pub mod AdvanceLaws
 pub mod RewardLaws
 pub mod PaidLaws
+pub mod ChangeLaws

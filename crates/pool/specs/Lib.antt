@@ -1,2 +1,3 @@
 pub mod Answers
 pub mod Reward
+pub mod Changes
