@@ -1,290 +1,112 @@
--- Worked examples of fresh, advance and forecast at P 2 and E 4, by computing. Document 01's own are marked P or stand in its table of refusals;
--- the figures of the others were worked out by hand. Assumes nothing.
+-- Document 01's examples that are marked P, in its order, on the definitions and by field. Assumes nothing.
 use mathlib.Core.Path.{_≡_, refl}
-use mathlib.Core.List.{List, [], _∷_, _++_}
-use Prim.Native.Nat.{ℕ, zero, suc, _+_, _-_, _*_, _/_, _%_, _^_}
-use lib.ListN.{length}
-use Rattle.types.specs.Base.{word, half, Outcome, refused, accepted, mapOutcome, sumBelow, allBelow, anyBelow, countBelow, firstBelow}
-use Rattle.positions.specs.Key.{sameKey}
-use Rattle.publisher_caps.specs.Key.{bigEndian, littleEndian, swapped, pair}
-use Rattle.publisher_caps.specs.Lookup.{lookup, capOf}
-use Rattle.publisher_caps.specs.Message.{timeOf, rowsOf, keyWord, ascends, noneZero, messageHolds}
-use Rattle.event.specs.Eligible.{selfEligible, otherEligible, ratioOf}
+use mathlib.Core.Bool.{false}
+use mathlib.Core.List.{List, []}
+use Prim.Native.Nat.{ℕ}
+use Rattle.types.specs.Base.{Outcome, accepted, mapOutcome}
+use Rattle.positions.specs.declared.position.PositionState.the-variants.{UNLOCKED, LOCKING, PREUNLOCKING, UNLOCKING}
+use Rattle.positions.specs.State.{stateBy}
+use Rattle.event.specs.Eligible.{selfEligible, otherEligible, ratioOf, selfRatio, otherRatio}
 use Rattle.event.specs.Adjust.{rewardsOf, loweredBy, adjustOf}
-use Rattle.delegation.specs.Side.{rolled, rollFits}
-use Rattle.image.specs.Layout.{self, other, lastUpdatedEpoch, claimableRewards, numEvents, publishers, totalDelegation, deltaDelegation, publisherStakeAccounts, numSlashEvents, delegationFees, eventEpoch, eventY, extraSpace, rewardRatio, eventFee, Field, head, seat, slot, share, Words, size, addr, ifBelow, ifEqual, sideField, eventField, fieldOf, read, tabulate, image}
-use Rattle.image.specs.Seats.{sizedImage, checkedImage, emptySeat, seatsOf}
-use Rattle.image.proofs.HoldsLaws.{put}
-use Rattle.advance_plan.specs.declared.Given.{Given}
-use Rattle.advance_plan.specs.Advance.{keyNumber, seatCap, seatRolls, eligibleAt, ratioAt, eligibleIn, ratioIn, eligibleSum, forecastSum, matchedRow, keyAfter, eventWritten, eventsAfter, adjustmentOf, matchedRows, answerWith, advanceOf, forecastOf}
-use Rattle.integrity_pool.specs.Calls.{freshCall, freshImage, checkedThen, advanceCall, advanceImage, forecastCall}
-use Rattle.integrity_pool.specs.Advances.{advancesImage}
+use Rattle.event.specs.Event.{rateOf, totalOf, shared, rewardOf}
+use Rattle.image.specs.Layout.{numEvents, head, read}
+use Rattle.integrity_pool.specs.Calls.{advanceImage}
+use Rattle.integrity_pool.proofs.Computing.{advances}
+use Rattle.integrity_pool.proofs.AdvanceExamples.{message, given, at10, epochs}
 
--- ---- what the calls compute with: to open one of these is to open all that its line names
+-- ---- 'cap 100, self 60, other 80: eligible 60, 40; ratios 1,000,000, 500,000. Cap 50: 50, 0; 833,333, 0. All totals 0: ratios 0.'
 
-numbers : Unit {0}
-unfolding sumBelow allBelow anyBelow countBelow firstBelow bigEndian littleEndian swapped pair sameKey
-numbers = tt
+-- eligible amounts, then ratios, of the self side and the other
+abbrev eligibleRow : (cap selfTotal otherTotal : ℕ) → ℕ × ℕ × ℕ × ℕ
+eligibleRow cap selfTotal otherTotal =
+    (selfEligible cap selfTotal, otherEligible cap selfTotal otherTotal, selfRatio cap selfTotal, otherRatio cap selfTotal otherTotal)
 
-words : Unit {0}
-unfolding put read tabulate image fieldOf eventField sideField ifEqual ifBelow sizedImage checkedImage emptySeat seatsOf
-words = tt
+pub cap-100 : eligibleRow 100 60 80 ≡ (60, 40, 1_000_000, 500_000)
+unfolding selfEligible otherEligible ratioOf
+cap-100 = refl
 
-caps : Unit {0}
-unfolding timeOf rowsOf keyWord ascends noneZero messageHolds lookup capOf keyNumber seatCap matchedRow matchedRows keyAfter
-caps = tt
+pub cap-50 : eligibleRow 50 60 80 ≡ (50, 0, 833_333, 0)
+unfolding selfEligible otherEligible ratioOf
+cap-50 = refl
 
-amounts : Unit {0}
-unfolding selfEligible otherEligible ratioOf eligibleAt ratioAt eligibleIn ratioIn eligibleSum forecastSum rolled rollFits seatRolls rewardsOf loweredBy adjustOf
-amounts = tt
+-- at any cap
+pub totals-0 : (cap : ℕ) → (selfRatio cap 0 ≡ 0) × (otherRatio cap 0 0 ≡ 0)
+unfolding selfEligible otherEligible ratioOf
+totals-0 cap = (refl, refl)
 
-calls : Unit {0}
-unfolding eventWritten eventsAfter adjustmentOf answerWith advanceOf forecastOf checkedThen freshCall freshImage advanceCall advanceImage forecastCall advancesImage
-calls = tt
+-- ---- 'T 1,000,000, y 10,000, claimable 0: custody 10,000 sets aside 10,000; 9,999 gives y' 9,999 and 9,999.'
 
-computing : Unit {0}
-unfolding numbers words caps amounts calls
-computing = tt
+-- y' and the amount set aside
+abbrev adjusted : (T y claimable custody : ℕ) → Outcome (ℕ × ℕ)
+adjusted T y claimable custody = mapOutcome (λ r. (r .y, r .setAside)) (adjustOf T y claimable custody)
 
--- ---- the image at P 2 and E 4, and its size
+pub covered : adjusted 1_000_000 10_000 0 10_000 ≡ accepted (10_000, 10_000)
+unfolding adjustOf rewardsOf
+covered = refl
 
-pub sizes : (size 2 4 ≡ 91) × (size 1_024 52 ≡ 174_551)
-sizes = (refl, refl)
+pub one-short : adjusted 1_000_000 10_000 0 9_999 ≡ accepted (9_999, 9_999)
+unfolding adjustOf rewardsOf loweredBy
+one-short = refl
 
--- the first and the last word of each run
-abbrev places : List Field → List ℕ
-places [] = []
-places (f ∷ fs) = addr 2 4 f ∷ places fs
+-- ---- 'y 10,000: T 333, claimable 0, custody 2: y' 6,666, set aside 2. Claimable 7, custody 7, T 1,000,000: 0, 0.'
 
-pub places-in-order : places (
-    head lastUpdatedEpoch ∷ head claimableRewards
-    ∷ seat 0 (publishers 0) ∷ seat 1 (publishers 3)
-    ∷ seat 0 (totalDelegation other) ∷ seat 0 (deltaDelegation other) ∷ seat 1 (deltaDelegation other)
-    ∷ seat 0 (totalDelegation self) ∷ seat 0 (deltaDelegation self) ∷ seat 1 (deltaDelegation self)
-    ∷ seat 0 (publisherStakeAccounts 0) ∷ seat 1 (publisherStakeAccounts 3)
-    ∷ slot 0 eventEpoch ∷ slot 0 eventY ∷ slot 0 (extraSpace 0) ∷ slot 0 (extraSpace 6)
-    ∷ share 0 0 (rewardRatio self) ∷ share 0 0 (rewardRatio other) ∷ share 0 0 eventFee ∷ share 0 1 eventFee
-    ∷ slot 1 eventEpoch ∷ share 3 1 eventFee
-    ∷ head numEvents ∷ seat 0 numSlashEvents ∷ seat 1 numSlashEvents ∷ seat 0 delegationFees ∷ seat 1 delegationFees
-    ∷ [])
-    ≡ 0 ∷ 1 ∷ 2 ∷ 9 ∷ 10 ∷ 11 ∷ 13 ∷ 14 ∷ 15 ∷ 17 ∷ 18 ∷ 25 ∷ 26 ∷ 27 ∷ 28 ∷ 34 ∷ 35 ∷ 36 ∷ 37 ∷ 40 ∷ 41 ∷ 85 ∷ 86 ∷ 87 ∷ 88 ∷ 89 ∷ 90 ∷ []
-places-in-order = refl
+pub small-total : adjusted 333 10_000 0 2 ≡ accepted (6_666, 2)
+unfolding adjustOf rewardsOf loweredBy
+small-total = refl
 
--- ---- words by name, and messages
+pub nothing-left : adjusted 1_000_000 10_000 7 7 ≡ accepted (0, 0)
+unfolding adjustOf rewardsOf loweredBy
+nothing-left = refl
 
--- a pool's words with these set
-abbrev pub setTo : List (Field × ℕ) → Words → Words
-setTo [] w = w
-setTo (x ∷ more) w = put 2 4 (setTo more w) (x .0) (x .1)
+-- ---- 'y 10,000, ratio 500,000, fee 200,000: amount 1,000,000 pays 4,000 and 1,000; 200 pays 1, 0; 199 pays 0, 0.'
 
--- a number's bytes, the highest first
-abbrev bytes : (count n : ℕ) → List ℕ
-bytes zero n = []
-bytes (suc count) n = n / 256 ^ count % 256 ∷ bytes count n
+-- the delegator's part and the publisher's
+abbrev pays : (amount : ℕ) → Outcome (ℕ × ℕ)
+pays amount = mapOutcome (λ r. (r .delegator, r .publisher)) (rewardOf amount 10_000 500_000 200_000 false)
 
--- a row is a key and its cap
-abbrev rowBytes : List (ℕ × ℕ) → List ℕ
-rowBytes [] = []
-rowBytes (r ∷ rows) = bytes 32 (r .0) ++ (bytes 8 (r .1) ++ rowBytes rows)
+pub million : pays 1_000_000 ≡ accepted (4_000, 1_000)
+unfolding rewardOf rateOf totalOf shared
+million = refl
 
-abbrev message : (time : ℕ) → List (ℕ × ℕ) → List ℕ
-message time rows = 0 ∷ (bytes 8 time ++ (bytes 2 (length rows) ++ rowBytes rows))
+pub two-hundred : pays 200 ≡ accepted (1, 0)
+unfolding rewardOf rateOf totalOf shared
+two-hundred = refl
 
-abbrev givenAs : (now y custody seconds flag : ℕ) → Given
-givenAs now y custody seconds flag = record { «current_epoch» = now; y = y; «pool_reward_custody_balance» = custody; «epoch_duration» = seconds; «is_verified» = flag }
+pub one-below : pays 199 ≡ accepted (0, 0)
+unfolding rewardOf rateOf totalOf shared
+one-below = refl
 
--- with y 10,000, 604,800 seconds an epoch and a flag of 1
-abbrev given : (now custody : ℕ) → Given
-given now custody = givenAs now 10_000 custody 604_800 1
+-- ---- 'activation 5, start 8: 4 LOCKING, 7 PREUNLOCKING, 8 UNLOCKING, 9 UNLOCKED. Start 3, epoch 5: UNLOCKED.' The unlocking length is 1.
 
--- ---- P: E 4, n 0, last 9, now 15: slots hold 13, 14, 11, 12; n 6
+pub at-4-locking : stateBy 5 1 8 4 1 ≡ accepted LOCKING
+unfolding stateBy
+at-4-locking = refl
 
--- a fresh pool, from a list of fives
-abbrev at10 : List ℕ
-at10 = freshImage 2 4 (image 2 4 (λ f. 5)) 10
+pub at-7-preunlocking : stateBy 5 1 8 7 1 ≡ accepted PREUNLOCKING
+unfolding stateBy
+at-7-preunlocking = refl
+
+pub at-8-unlocking : stateBy 5 1 8 8 1 ≡ accepted UNLOCKING
+unfolding stateBy
+at-8-unlocking = refl
+
+pub at-9-unlocked : stateBy 5 1 8 9 1 ≡ accepted UNLOCKED
+unfolding stateBy
+at-9-unlocked = refl
+
+pub start-3-unlocked : stateBy 5 1 3 5 1 ≡ accepted UNLOCKED
+unfolding stateBy
+start-3-unlocked = refl
+
+-- ---- 'E 4, n 0, last 9, now 15: slots hold 13, 14, 11, 12; n 6.' From a pool fresh at 10.
 
 abbrev at15 : List ℕ
 at15 = advanceImage 2 4 at10 (message 9_072_000 []) (given 15 0)
 
-abbrev epochs : List ℕ → ℕ × ℕ × ℕ × ℕ
-epochs img = (read 2 4 img (slot 0 eventEpoch), read 2 4 img (slot 1 eventEpoch), read 2 4 img (slot 2 eventEpoch), read 2 4 img (slot 3 eventEpoch))
-
 pub ring-epochs : epochs at15 ≡ (13, 14, 11, 12)
-unfolding computing
+unfolding advances
 ring-epochs = refl
 
 pub ring-count : read 2 4 at15 (head numEvents) ≡ 6
-unfolding computing
+unfolding advances
 ring-count = refl
-
--- the same by way of 12, with a call between that is refused
-pub ring-by-12 : epochs (advancesImage 2 4 (
-    record { message = message 7_257_600 []; given = given 12 0 }
-    ∷ record { message = message 7_257_600 []; given = given 12 0 }
-    ∷ record { message = message 9_072_000 []; given = given 15 0 }
-    ∷ [])
-    at10) ≡ (13, 14, 11, 12)
-unfolding computing
-ring-by-12 = refl
-
--- ---- an advance with a row of each kind, and y lowered
-
--- seat 0 has key 1, 0 .. 0, 2 (bytes), and sides that roll from 600,000 to 1,000,000 and from 800,000 to 700,000; slot 3 has a spare word
-abbrev foundWords : Words
-foundWords = setTo (
-    (head lastUpdatedEpoch, 9)
-    ∷ (head claimableRewards, 7)
-    ∷ (head numEvents, 3)
-    ∷ (seat 0 (publishers 0), 1)
-    ∷ (seat 0 (publishers 3), 2 * 256 ^ 7)
-    ∷ (seat 0 (totalDelegation self), 600_000)
-    ∷ (seat 0 (deltaDelegation self), 400_000)
-    ∷ (seat 0 (totalDelegation other), 800_000)
-    ∷ (seat 0 (deltaDelegation other), word - 100_000)
-    ∷ (seat 0 delegationFees, 200_000)
-    ∷ (slot 3 (extraSpace 0), 77)
-    ∷ [])
-    (λ f. 0)
-
-abbrev found : List ℕ
-found = image 2 4 foundWords
-
--- the second row is seat 0's, the first takes seat 1, the third is dropped
-abbrev rows : (cap : ℕ) → List ℕ
-rows cap = message 7_257_605 ((5, 500) ∷ (256 ^ 31 + 2, cap) ∷ (2 * 256 ^ 31, 9) ∷ [])
-
--- y', set aside, matched, seated, dropped
-abbrev answer : List ℕ → List ℕ → Given → Outcome (ℕ × ℕ × ℕ × ℕ × ℕ)
-answer img m g = mapOutcome (λ a. (a .y, a .setAside, a .matched, a .seated, a .dropped)) (advanceCall 2 4 img m g)
-
--- epochs 9, 10 and 11 have 1,000,000 eligible each, so R is 30,000, of which custody covers 10,000
-pub lowered-answer : answer found (rows 1_000_000) (given 12 10_007) ≡ accepted (3_333, 9_999, 1, 1, 1)
-unfolding computing
-lowered-answer = refl
-
--- the words that change; all others of the 91 stay
-pub lowered-image : advanceImage 2 4 found (rows 1_000_000) (given 12 10_007) ≡ image 2 4 (setTo (
-    (head lastUpdatedEpoch, 12)
-    ∷ (head claimableRewards, 10_006)
-    ∷ (head numEvents, 6)
-    ∷ (seat 0 (totalDelegation self), 1_000_000)
-    ∷ (seat 0 (deltaDelegation self), 0)
-    ∷ (seat 0 (totalDelegation other), 700_000)
-    ∷ (seat 0 (deltaDelegation other), 0)
-    ∷ (seat 1 (publishers 3), 5 * 256 ^ 7)
-    ∷ (slot 3 eventEpoch, 9)
-    ∷ (slot 3 eventY, 3_333)
-    ∷ (share 3 0 (rewardRatio self), 1_000_000)
-    ∷ (share 3 0 (rewardRatio other), 500_000)
-    ∷ (share 3 0 eventFee, 200_000)
-    ∷ (slot 0 eventEpoch, 10)
-    ∷ (slot 0 eventY, 3_333)
-    ∷ (share 0 0 (rewardRatio self), 1_000_000)
-    ∷ (share 0 0 eventFee, 200_000)
-    ∷ (slot 1 eventEpoch, 11)
-    ∷ (slot 1 eventY, 3_333)
-    ∷ (share 1 0 (rewardRatio self), 1_000_000)
-    ∷ (share 1 0 eventFee, 200_000)
-    ∷ [])
-    foundWords)
-unfolding computing
-lowered-image = refl
-
-pub lowered-forecast : forecastCall 2 4 found (rows 1_000_000) (given 12 10_007) ≡ accepted 9_999
-unfolding computing
-lowered-forecast = refl
-
--- under a cap of 2,000,000 all is eligible: 1,400,000 in epoch 9, then 1,700,000 twice; the forecast takes 1,700,000 three times
-pub full-answer : answer found (rows 2_000_000) (given 12 100_000) ≡ accepted (10_000, 48_000, 1, 1, 1)
-unfolding computing
-full-answer = refl
-
-pub full-forecast : forecastCall 2 4 found (rows 2_000_000) (given 12 100_000) ≡ accepted 51_000
-unfolding computing
-full-forecast = refl
-
--- ---- the table of refusals, by its examples
-
--- what an advance and a forecast answer: the amount set aside
-abbrev both : (P E : ℕ) → List ℕ → List ℕ → Given → Outcome ℕ × Outcome ℕ
-both P E img m g = (mapOutcome (λ a. a .setAside) (advanceCall P E img m g), forecastCall P E img m g)
-
-abbrev both-refused : ℕ → Outcome ℕ × Outcome ℕ
-both-refused k = (refused k, refused k)
-
--- P 0
-pub refused-1 : (freshCall 0 4 found 10 ≡ refused 1) × (both 0 4 found (rows 9) (given 12 7) ≡ both-refused 1)
-unfolding computing
-refused-1 = (refl, refl)
-
--- fresh 0; epoch seconds 0
-pub refused-2 : (freshCall 2 4 found 0 ≡ refused 2) × (both 2 4 found (rows 9) (givenAs 12 10_000 7 0 1) ≡ both-refused 2)
-unfolding computing
-refused-2 = (refl, refl)
-
--- 10 bytes
-pub refused-3 : both 2 4 found (bytes 10 0) (given 12 7) ≡ both-refused 3
-unfolding computing
-refused-3 = refl
-
--- y 10,001
-pub refused-5 : both 2 4 found (rows 9) (givenAs 12 10_001 7 604_800 1) ≡ both-refused 5
-unfolding computing
-refused-5 = refl
-
--- flag 0
-pub refused-7 : both 2 4 found (rows 9) (givenAs 12 10_000 7 604_800 0) ≡ both-refused 7
-unfolding computing
-refused-7 = refl
-
--- last 9, now 9
-pub refused-8 : both 2 4 found (rows 9) (given 9 7) ≡ both-refused 8
-unfolding computing
-refused-8 = refl
-
--- now 15, time 9,071,999
-pub refused-9 : both 2 4 at10 (message 9_071_999 []) (given 15 0) ≡ both-refused 9
-unfolding computing
-refused-9 = refl
-
--- total 5, change -6
-abbrev belowZero : List ℕ
-belowZero = image 2 4 (setTo ((seat 0 (totalDelegation self), 5) ∷ (seat 0 (deltaDelegation self), word - 6) ∷ []) foundWords)
-
-pub refused-13 : both 2 4 belowZero (rows 9) (given 12 7) ≡ both-refused 13
-unfolding computing
-refused-13 = refl
-
--- n would reach 2^63, by the third of the passed epochs; with one event fewer it does not, and n at 2^63 is 1
-abbrev withCount : (n : ℕ) → List ℕ
-withCount n = image 2 4 (setTo ((head numEvents, n) ∷ []) foundWords)
-
-pub count-edge : (both 2 4 (withCount (half - 3)) (rows 9) (given 12 7) ≡ both-refused 13)
-    × (both 2 4 (withCount (half - 4)) (rows 9) (given 12 7) ≡ (accepted 0, accepted 0))
-    × (both 2 4 (withCount half) (rows 9) (given 12 7) ≡ both-refused 1)
-unfolding computing
-count-edge = (refl, refl, refl)
-
--- claimable 7 over custody 6
-pub refused-14 : both 2 4 found (rows 9) (given 12 6) ≡ both-refused 14
-unfolding computing
-refused-14 = refl
-
--- ---- the order: one fault after the other is put right
-
-abbrev noTime : List ℕ
-noTime = message half []
-
-pub in-order : (both 0 4 belowZero (bytes 10 0) (givenAs 9 10_001 6 0 0) ≡ both-refused 1)
-    × (both 2 4 belowZero (bytes 10 0) (givenAs 9 10_001 6 0 0) ≡ both-refused 2)
-    × (both 2 4 belowZero (bytes 10 0) (givenAs 9 10_001 6 604_800 0) ≡ both-refused 3)
-    × (both 2 4 belowZero noTime (givenAs 9 10_001 6 604_800 0) ≡ both-refused 5)
-    × (both 2 4 belowZero noTime (givenAs 9 10_000 6 604_800 0) ≡ both-refused 7)
-    × (both 2 4 belowZero noTime (given 9 6) ≡ both-refused 8)
-    × (both 2 4 belowZero noTime (given 12 6) ≡ both-refused 13)
-    × (both 2 4 belowZero (message 7_257_599 []) (given 12 6) ≡ both-refused 9)
-    × (both 2 4 belowZero (message 7_257_600 []) (given 12 6) ≡ both-refused 13)
-    × (both 2 4 found (message 7_257_600 []) (given 12 6) ≡ both-refused 14)
-    × (both 2 4 found (message 7_257_600 []) (given 12 7) ≡ (accepted 0, accepted 0))
-unfolding computing
-in-order = (refl, refl, refl, refl, refl, refl, refl, refl, refl, refl, refl)

@@ -1,7 +1,14 @@
 pub mod AcceptedLaws
-pub mod RingLaws
+pub mod Computing
+pub mod AdvanceExamples
 pub mod Examples
 pub mod CallLaws
 pub mod PaymentTells
+pub mod PaymentAbove
 pub mod PaymentLaws
 pub mod PaymentExamples
+pub mod ChangeLaws
+pub mod SlashLaws
+pub mod StakeAccountLaws
+pub mod ChangeTells
+pub mod ChangeExamples

@@ -3,44 +3,17 @@
 use mathlib.Core.Path.{_≡_, refl}
 use mathlib.Core.List.{List, [], _∷_, _++_}
 use Prim.Native.Nat.{ℕ, _-_}
-use Rattle.types.specs.Base.{word, half, Outcome, refused, accepted, mapOutcome, sumBelow, allBelow, countBelow, firstBelow}
+use Rattle.types.specs.Base.{word, half, Outcome, refused, accepted, mapOutcome}
 use Rattle.positions.specs.declared.Key.{Key}
 use Rattle.positions.specs.declared.OptionKey.{OptionKey}
 use Rattle.positions.specs.declared.OptionKey.the-variants.{Some, None}
-use Rattle.positions.specs.Key.{sameKey}
-use Rattle.positions.specs.State.{stateBy}
-use Rattle.positions.specs.Positions.{positionHolds, positionsHold, inPublisher}
-use Rattle.event.specs.Event.{rateOf, totalOf, shared, rewardOf, eventReward}
-use Rattle.image.specs.Layout.{self, other, lastUpdatedEpoch, claimableRewards, numEvents, publishers, publisherStakeAccounts, eventEpoch, eventY, rewardRatio, eventFee, Field, head, seat, slot, share, Words, ifBelow, ifEqual, sideField, eventField, fieldOf, read, tabulate, image}
-use Rattle.image.specs.Seats.{sizedImage, checkedImage, zeroKey, firstSeat, publisherIndexOf}
+use Rattle.image.specs.Layout.{self, other, lastUpdatedEpoch, claimableRewards, numEvents, publishers, publisherStakeAccounts, eventEpoch, eventY, rewardRatio, eventFee, Field, head, seat, slot, share, Words, read, image}
+use Rattle.image.specs.Seats.{zeroKey}
 use Rattle.image.proofs.HoldsLaws.{put}
-use Rattle.event_walk.specs.Walk.{walkLength, walkSlot, walkEpoch, walkMeets, walkReads, drawnIn, walkFits, drawnAt, slotAmount, gatherFits, readsOf}
-use Rattle.pool.specs.Reward.{slotReward, rewardSum, calculateReward}
 use Rattle.integrity_pool.specs.declared.payment.Claim.{Claim}
-use Rattle.integrity_pool.specs.Payment.{selfSide, custodyFall, payOut, paymentAt, paymentOf, paymentCall, paymentImage}
-use Rattle.integrity_pool.proofs.Examples.{setTo}
-
--- ---- what a payment computes with: to open one of these is to open all that its line names
-
-words : Unit {0}
-unfolding put read tabulate image fieldOf eventField sideField ifEqual ifBelow sizedImage checkedImage firstSeat publisherIndexOf sameKey
-words = tt
-
-positions : Unit {0}
-unfolding sumBelow allBelow countBelow firstBelow stateBy positionHolds positionsHold inPublisher
-positions = tt
-
-walks : Unit {0}
-unfolding walkLength walkSlot walkEpoch walkMeets walkReads drawnIn walkFits drawnAt slotAmount gatherFits readsOf
-walks = tt
-
-rewards : Unit {0}
-unfolding rateOf totalOf shared rewardOf eventReward slotReward rewardSum calculateReward
-rewards = tt
-
-computing : Unit {0}
-unfolding words positions walks rewards selfSide custodyFall payOut paymentAt paymentOf paymentCall paymentImage
-computing = tt
+use Rattle.integrity_pool.specs.Payment.{custodyFall, paymentCall, paymentImage}
+use Rattle.integrity_pool.proofs.Computing.{payments}
+use Rattle.integrity_pool.proofs.AdvanceExamples.{setTo}
 
 -- ---- a pool, positions and claims
 
@@ -120,37 +93,37 @@ paid w list c =
 -- a record of epoch 13: 14 and 13 are met, 12 is read, and each event pays 4,000 and 1,000 of 1,000,000
 pub with-key : paid (pool 10_500 stakeAccount) (strangers ++ locked 1_000_000) (claimed 13 (Some stakeAccount))
     ≡ accepted (8_000, 2_000, 10_000, 15, 2, 3)
-unfolding computing
+unfolding payments
 with-key = refl
 
 -- no word but claimable changes
 pub with-key-image : paymentImage 2 4 (image 2 4 (pool 10_500 stakeAccount)) (strangers ++ locked 1_000_000) (claimed 13 (Some stakeAccount))
     ≡ image 2 4 (pool 500 stakeAccount)
-unfolding computing
+unfolding payments
 with-key-image = refl
 
 -- without a stake account custody falls by the delegator's part alone, claimable by both
 pub with-none : (paid (pool 10_500 zeroKey) (locked 1_000_000) (claimed 13 None) ≡ accepted (8_000, 2_000, 8_000, 15, 2, 3))
     × (paymentImage 2 4 (image 2 4 (pool 10_500 zeroKey)) (locked 1_000_000) (claimed 13 None) ≡ image 2 4 (pool 500 zeroKey))
-unfolding computing
+unfolding payments
 with-none = (refl, refl)
 
 -- the publisher's own account: its own ratio and no fee; the zero key is the account of a seat without one
 pub self-side :
     (paid (pool 20_000 stakeAccount) (locked 1_000_000) (claim 13 15 1 publisher stakeAccount (Some stakeAccount)) ≡ accepted (20_000, 0, 20_000, 15, 2, 3))
     × (paid (pool 20_000 zeroKey) (locked 1_000_000) (claim 13 15 1 publisher zeroKey None) ≡ accepted (20_000, 0, 20_000, 15, 2, 3))
-unfolding computing
+unfolding payments
 self-side = (refl, refl)
 
 -- start 13: UNLOCKED in 14, UNLOCKING in 13, PREUNLOCKING in 12 and 11. The walk goes on past 14 and 13; all four events are read
 pub past-unlocked : paid (pool 10_000 stakeAccount) (position 1_000_000 5 1 13) (claimed 12 (Some stakeAccount))
     ≡ accepted (4_000, 1_000, 5_000, 15, 2, 4)
-unfolding computing
+unfolding payments
 past-unlocked = refl
 
 -- amounts gather per slot before a reward is worked out: 100 and 100 earn what 200 earn, not twice nothing
 pub gathered : paid (pool 1 stakeAccount) (locked 100 ++ locked 100) (claimed 14 (Some stakeAccount)) ≡ accepted (1, 0, 1, 15, 2, 4)
-unfolding computing
+unfolding payments
 gathered = refl
 
 -- ---- the table of refusals: its examples, and the others that can be given
@@ -160,23 +133,23 @@ refusedBy w list c k = paid w list c ≡ refused k
 
 -- kind 3
 pub refused-4 : refusedBy (pool 1 stakeAccount) (3 ∷ 0 ∷ 0 ∷ 0 ∷ 0 ∷ 0 ∷ 0 ∷ 0 ∷ 0 ∷ []) (claimed 14 (Some stakeAccount)) 4
-unfolding computing
+unfolding payments
 refused-4 = refl
 
 -- zero key
 pub refused-10 : refusedBy (pool 1 stakeAccount) (locked 200) (claim 14 15 1 zeroKey (key 8 8) (Some stakeAccount)) 10
-unfolding computing
+unfolding payments
 refused-10 = refl
 
 -- unseated key
 pub refused-11 : refusedBy (pool 1 stakeAccount) (locked 200) (claim 14 15 1 (key 9 7) (key 8 8) (Some stakeAccount)) 11
-unfolding computing
+unfolding payments
 refused-11 = refl
 
 -- last 9, now 10
 pub refused-12 : refusedBy (setTo ((head lastUpdatedEpoch, 9) ∷ []) (pool 1 stakeAccount)) (locked 200)
     (claim 14 10 1 publisher (key 8 8) (Some stakeAccount)) 12
-unfolding computing
+unfolding payments
 refused-12 = refl
 
 -- at a y of 1,000,000 and a ratio of 1,000,000 an amount earns itself
@@ -194,25 +167,25 @@ pub refused-13 : refusedBy (pool 1 stakeAccount) (position 200 5 1 (word - 1)) (
     × refusedBy (pool 1 stakeAccount) (locked (word - 1) ++ locked 1) (claimed 14 (Some stakeAccount)) 13
     × refusedBy rich (locked half) (claimed 13 (Some stakeAccount)) 13
     × refusedBy rich (locked (half - 1)) (claimed 13 (Some stakeAccount)) 16
-unfolding computing
+unfolding payments
 refused-13 = (refl, refl, refl, refl)
 
 -- 1 of 0; 1 of 1 is paid
 pub refused-16 : refusedBy (pool 0 stakeAccount) (locked 200) (claimed 14 (Some stakeAccount)) 16
     × (paid (pool 1 stakeAccount) (locked 200) (claimed 14 (Some stakeAccount)) ≡ accepted (1, 0, 1, 15, 2, 2))
-unfolding computing
+unfolding payments
 refused-16 = (refl, refl)
 
 -- other key; no key where the seat has one; a key where it has none
 pub refused-17 : refusedBy (pool 1 stakeAccount) (locked 200) (claimed 14 (Some (key 4 3))) 17
     × refusedBy (pool 1 stakeAccount) (locked 200) (claimed 14 None) 17
     × refusedBy (pool 1 zeroKey) (locked 200) (claimed 14 (Some stakeAccount)) 17
-unfolding computing
+unfolding payments
 refused-17 = (refl, refl, refl)
 
 -- flag absent
 pub refused-18 : refusedBy (pool 1 stakeAccount) (locked 200) (claim 14 15 0 publisher (key 8 8) (Some stakeAccount)) 18
-unfolding computing
+unfolding payments
 refused-18 = refl
 
 -- ---- the order: one fault after the other is put right
@@ -231,5 +204,5 @@ pub in-order :
     × refusedBy (pool 1 stakeAccount) (locked 200) (claim 14 15 0 publisher (key 8 8) None) 17
     × refusedBy (pool 1 stakeAccount) (locked 200) (claim 14 15 0 publisher (key 8 8) (Some stakeAccount)) 18
     × (paid (pool 1 stakeAccount) (locked 200) (claim 14 15 1 publisher (key 8 8) (Some stakeAccount)) ≡ accepted (1, 0, 1, 15, 2, 2))
-unfolding computing
+unfolding payments
 in-order = (refl, refl, refl, refl, refl, refl, refl, refl, refl, refl)

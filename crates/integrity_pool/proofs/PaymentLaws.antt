@@ -22,7 +22,8 @@ use Rattle.pool.specs.Reward.{Earned, calculateReward}
 use Rattle.integrity_pool.specs.declared.payment.Claim.{Claim}
 use Rattle.integrity_pool.specs.declared.payment.DelegationRecord.{DelegationRecord}
 use Rattle.integrity_pool.proofs.PaymentTells.{payment-covered}
-use Rattle.integrity_pool.specs.Payment.{selfSide, recordAt, custodyFall, Payment, paymentWith, payOut, paymentAt, paymentOf, paidWords, paymentCall, paymentImage}
+use Rattle.image.specs.Changes.{selfSide}
+use Rattle.integrity_pool.specs.Payment.{recordAt, custodyFall, Payment, paymentWith, payOut, paymentAt, paymentOf, paidWords, paymentCall, paymentImage}
 
 -- ---- the publisher account: 17, 18, by how much custody falls
 

@@ -10,14 +10,19 @@ use lib.ListN.{length}
 use borrow.Author.Tests.{ltb-false, eqb-true, not-false}
 use Rattle.types.specs.Base.{Outcome, refused, accepted, after}
 use Rattle.types.proofs.OutcomeLaws.{test-passed, then-accepts}
+use Rattle.positions.specs.declared.Key.{Key}
+use Rattle.positions.specs.declared.OptionKey.{OptionKey}
+use Rattle.positions.specs.declared.OptionKey.the-variants.{Some, None}
+use Rattle.positions.specs.Key.{sameKey}
 use Rattle.positions.specs.Positions.{positionsHold}
 use Rattle.image.specs.Layout.{lastUpdatedEpoch, claimableRewards, numEvents, Field, head, seat, slot, share, Words, InRange, read, image}
-use Rattle.image.specs.Seats.{checkedImage, stakeAccountAt, publisherIndexOf}
+use Rattle.image.specs.Seats.{checkedImage, zeroKey, stakeAccountAt, publisherIndexOf}
 use Rattle.image.proofs.SeatLaws.{checked-says}
 use Rattle.image.proofs.LayoutLaws.{read-image, length-image}
 use Rattle.pool.specs.Reward.{Earned, calculateReward}
 use Rattle.integrity_pool.specs.declared.payment.Claim.{Claim}
-use Rattle.integrity_pool.specs.Payment.{selfSide, custodyFall, Payment, paymentWith, payOut, paymentAt, paymentOf, paidWords, paymentCall, paymentImage}
+use Rattle.image.specs.Changes.{selfSide}
+use Rattle.integrity_pool.specs.Payment.{custodyFall, Payment, paymentWith, payOut, paymentAt, paymentOf, paidWords, paymentCall, paymentImage}
 
 -- ---- each test on the way to an accepted payment passed
 
@@ -71,6 +76,20 @@ payment-covered P E w words c a e =
     let t = payment-tells P E w words c a e in
     rw (sym (t .answer)) (t .covered)
 
+-- by how much custody falls: at most by both parts
+fall-le : (stakeAccount : Key) (account : OptionKey) (custody delegator both fall : ℕ) → custodyFall stakeAccount account custody delegator both ≡ accepted fall
+    → delegator ≤ both → fall ≤ both
+unfolding custodyFall
+fall-le stakeAccount (Some key) custody delegator both fall e l =
+    let t0 = test-passed (not (sameKey stakeAccount key)) _ _ fall e in
+    let t1 = test-passed (eqb custody 0) _ _ fall (t0 .1) in
+    let q : both ≡ fall = cc (t1 .1) in
+    omega arith
+fall-le stakeAccount None custody delegator both fall e l =
+    let t0 = test-passed (not (sameKey stakeAccount zeroKey)) _ _ fall e in
+    let q : delegator ≡ fall = cc (t0 .1) in
+    omega arith
+
 -- ---- what is written
 
 -- claimable falls by what is paid, and every other word stays
@@ -107,6 +126,14 @@ module _ (P E : ℕ) (img words : List ℕ) (c : Claim) where
             omega arith;
         stays = λ f i n. ap (λ (l : List ℕ). read P E l f) q ∙ read-image P E (paidWords w paid) f i ∙ paid-stays w paid f n;
       }
+
+  pub payment-falls : (a : Payment) → paymentCall P E img words c ≡ accepted a → a .custodyFall ≤ a .delegator + a .publisher
+  unfolding paymentCall
+  payment-falls a e =
+      let t0 = test-passed (not (checkedImage P E img)) _ _ a e in
+      let t1 = test-passed (not (positionsHold words)) _ _ a (t0 .1) in
+      let t = payment-tells P E (read P E img) words c a (t1 .1) in
+      rw (sym (t .answer)) (fall-le _ _ _ _ _ (t .fall) (t .falls) (omega arith))
 
   pub refused-writes : (k : ℕ) → paymentCall P E img words c ≡ refused k → paymentImage P E img words c ≡ img
   unfolding paymentImage

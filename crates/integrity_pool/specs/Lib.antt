@@ -1,3 +1,3 @@
 pub mod Calls
 pub mod Payment
-pub mod Advances
+pub mod Changes

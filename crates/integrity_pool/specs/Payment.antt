@@ -12,6 +12,7 @@ use Rattle.positions.specs.Key.{sameKey}
 use Rattle.positions.specs.Positions.{positionsHold}
 use Rattle.image.specs.Layout.{lastUpdatedEpoch, claimableRewards, numEvents, head, seat, slot, share, Words, read, image}
 use Rattle.image.specs.Seats.{checkedImage, zeroKey, stakeAccountAt, publisherIndexOf}
+use Rattle.image.specs.Changes.{selfSide}
 use Rattle.pool.specs.Reward.{Earned, calculateReward}
 -- last_epoch and next_slash_event_index
 use Rattle.integrity_pool.specs.declared.payment.DelegationRecord.{DelegationRecord}
@@ -22,10 +23,6 @@ use Rattle.integrity_pool.specs.declared.payment.Fall.{Fall}
 use Rattle.integrity_pool.specs.declared.payment.Fall.the-variants as fall
 use Rattle.integrity_pool.specs.declared.payment.PaymentAnswer.{PaymentAnswer}
 use Rattle.integrity_pool.specs.declared.payment.PaymentAnswer.the-variants as payment
-
--- 'Self side, also in item 9: the account key equals the seat's stake account key, both zero included'
-unfoldable pub selfSide : Words → (s : ℕ) → (account : Key) → Bool
-selfSide w s account = sameKey (stakeAccountAt w s) account
 
 -- 'An accepted payment moves the staker's record to the current epoch'; its next slash index stays
 abbrev pub recordAt : DelegationRecord → (epoch : ℕ) → DelegationRecord

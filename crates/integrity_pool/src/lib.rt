@@ -11,7 +11,10 @@ use types::refusals::INVALID_IMAGE;
 use types::refusals::INVALID_PUBLISHER_CAPS;
 use types::refusals::INVALID_Y;
 
+pub mod changes;
 pub mod payment;
+pub mod slash;
+pub mod stake_account;
 
 // The highest y that initialize_pool and update_y take.
 const MAX_Y: u64 = 10_000;

@@ -1,4 +1,4 @@
--- Document 01's example of item 6, and what refusals 4, 24 and 27 look at, on the definitions. Assumes nothing.
+-- What item 6 says at its edges, and what refusals 4, 24 and 27 look at, on the definitions. Assumes nothing.
 use mathlib.Core.Path.{_≡_, refl}
 use mathlib.Core.Bool.{true, false}
 use mathlib.Core.List.{[], _∷_, _++_}
@@ -7,35 +7,12 @@ use lib.ListN.{replicate}
 use Rattle.types.specs.Base.{refused, accepted, allBelow, anyBelow}
 use Rattle.types.specs.Refusals.{doesNotFit}
 use Rattle.positions.specs.declared.Key.{Key}
-use Rattle.positions.specs.declared.position.PositionState.the-variants.{UNLOCKED, LOCKING, LOCKED, PREUNLOCKING, UNLOCKING}
+use Rattle.positions.specs.declared.position.PositionState.the-variants.{LOCKING, LOCKED, PREUNLOCKING, UNLOCKING}
 use Rattle.positions.specs.Key.{sameKey}
 use Rattle.positions.specs.State.{stateBy, adds}
 use Rattle.positions.specs.Positions.{positionHolds, positionsHold, inPublisher, hasPublisher}
 
--- ---- 'activation 5, start 8: 4 LOCKING, 7 PREUNLOCKING, 8 UNLOCKING, 9 UNLOCKED', unlocking length 1
-
-pub at-4-locking : stateBy 5 1 8 4 1 ≡ accepted LOCKING
-unfolding stateBy
-at-4-locking = refl
-
-pub at-7-preunlocking : stateBy 5 1 8 7 1 ≡ accepted PREUNLOCKING
-unfolding stateBy
-at-7-preunlocking = refl
-
-pub at-8-unlocking : stateBy 5 1 8 8 1 ≡ accepted UNLOCKING
-unfolding stateBy
-at-8-unlocking = refl
-
-pub at-9-unlocked : stateBy 5 1 8 9 1 ≡ accepted UNLOCKED
-unfolding stateBy
-at-9-unlocked = refl
-
--- 'Start 3, epoch 5: UNLOCKED'
-pub start-3-unlocked : stateBy 5 1 3 5 1 ≡ accepted UNLOCKED
-unfolding stateBy
-start-3-unlocked = refl
-
--- ---- the edges beside it
+-- ---- states at the edges; document 01's own example stands with the others that are marked P, in integrity_pool
 
 -- without a start
 pub at-5-locked : stateBy 5 0 8 5 1 ≡ accepted LOCKED

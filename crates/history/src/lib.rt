@@ -1,0 +1,1 @@
+// Demand 3: specs has the claim about every list of calls, proofs its proof. There is no code.
