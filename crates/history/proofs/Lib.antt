@@ -6,3 +6,4 @@ pub mod EarnedLaws
 pub mod Advancing
 pub mod Paying
 pub mod Theorem
+pub mod Letter

@@ -32,7 +32,7 @@ pub record Good (P E first : ℕ) (st : State) : Type 0 where
   pub backed : Backed (read P E (st .image)) (st .custody)
 
 -- what is so where a test holds, and otherwise as it stands
-where-true : (Q : State → Type 0) (t : Bool) (x y : State) → (t ≡ true → Q x) → Q y → Q (if t then x else y)
+pub where-true : (Q : State → Type 0) (t : Bool) (x y : State) → (t ≡ true → Q x) → Q y → Q (if t then x else y)
 where-true Q true x y h q = h refl
 where-true Q false x y h q = q
 
