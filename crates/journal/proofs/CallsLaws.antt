@@ -64,7 +64,7 @@ module _ (call k next : ℕ) (is : next ≡ kindOf call k) where
   whole-words e = rw (← is, ne-eqb _ _ e)
 
 -- the names as the bytes of one list, a space between two
-abbrev spaced : List (List ℕ) → List ℕ
+abbrev pub spaced : List (List ℕ) → List ℕ
 spaced [] = []
 spaced (x ∷ []) = x
 spaced (x ∷ y ∷ xs) = x ++ (32 ∷ spaced (y ∷ xs))

@@ -21,14 +21,15 @@ use Rattle.text.specs.declared.items.WordsRead.the-variants.{Words, NotWord, La
 use Rattle.text.specs.Decimal.{numberOf}
 use Rattle.text.specs.Hex.{bytesOf, spelled}
 use Rattle.text.specs.Key.{keyOf}
-use Rattle.text.specs.Items.{same, items}
+use Rattle.text.specs.Items.{same, items, placeOf}
 use Rattle.text.specs.Words.{dash, comma, wordsOf, numbers, laid, listOf, listed}
 use Rattle.text.proofs.HexLaws.{bytes-count}
 use Rattle.text.proofs.WordsLaws.{words-within, list-within}
+use Rattle.journal.proofs.CallsLaws.{spaced}
 use Rattle.journal.specs.Held.{Parted}
 use Rattle.journal.specs.Calls.{n, o, wholeOf}
 use Rattle.journal.specs.Calls as calls
-use Rattle.journal.specs.Fields.{whatOf, put, whatKey, putKey, noneName, isNone, whatValue, putValue, MessageRead, PathRead, countWords, whatWords, partOf, parted, ListRead, roomOf, unendedOf, cutOf}
+use Rattle.journal.specs.Fields.{whatOf, put, whatKey, putKey, states, stateOf, whatState, putState, noneName, isNone, whatValue, putValue, MessageRead, PathRead, countWords, whatWords, partOf, parted, ListRead, roomOf, unendedOf, cutOf}
 
 -- a number that is read as r
 module _ (r x : Number) (is : r ≡ x) (k : ℕ) (l : List ℕ) where
@@ -52,6 +53,22 @@ module _ (r x : KeyRead) (is : r ≡ x) (k : ℕ) (l : List ℕ) where
   pub key-not : r ≡ NotKey → (16 ≡ whatKey x) × (l ≡ putKey x k l)
   key-not e = rw (← is, e) (refl, refl)
 
+-- the names of the states as the bytes of one list
+states-spaced : items 32 (spaced states) ≡ states
+unfolding items
+states-spaced = refl
+
+-- a state that is read as r
+module _ (name : List ℕ) (r : ℕ) (is : r ≡ placeOf name (items 32 (spaced states)) 1) (k : ℕ) (l : List ℕ) where
+  read-as : r ≡ stateOf name
+  read-as = rw states-spaced at is
+
+  pub state-not : r ≡ 0 → (17 ≡ whatState (stateOf name)) × (l ≡ putState (stateOf name) k l)
+  state-not e = rw (← read-as, eq-eqb _ _ e) (refl, refl)
+
+  pub state-is : (r ≡ 0 → ⊥) → (0 ≡ whatState (stateOf name)) × (set l k r ≡ putState (stateOf name) k l)
+  state-is n = rw (← read-as, ne-eqb _ _ n) (refl, refl)
+
 module _ (kind : ℕ) (s : List ℕ) where
   pub none-not : (kind ≡ o → ⊥) → false ≡ isNone kind s
   unfolding isNone
@@ -69,15 +86,21 @@ module _ (kind : ℕ) (s : List ℕ) where
     unfolding whatValue putValue
     value-number what new e is = rw (eq-eqb _ _ e) is
 
-    pub value-none : (r : Bool) → (kind ≡ n → ⊥) → r ≡ isNone kind s → r ≡ true → Told 0 (set l k 0)
+    pub value-state :
+        (what : ℕ) (new : List ℕ) → (kind ≡ n → ⊥) → kind ≡ calls.s → (what ≡ whatState (stateOf s)) × (new ≡ putState (stateOf s) k l) →
+        Told what new
     unfolding whatValue putValue
-    value-none r m is t = rw (ne-eqb _ _ m, ← is, t) (refl, refl)
+    value-state what new m e is = rw (ne-eqb _ _ m, eq-eqb _ _ e) is
+
+    pub value-none : (r : Bool) → (kind ≡ n → ⊥) → (kind ≡ calls.s → ⊥) → r ≡ isNone kind s → r ≡ true → Told 0 (set l k 0)
+    unfolding whatValue putValue
+    value-none r m o is t = rw (ne-eqb _ _ m, ne-eqb _ _ o, ← is, t) (refl, refl)
 
     pub value-key :
-        (r : Bool) (what : ℕ) (new : List ℕ) → (kind ≡ n → ⊥) → r ≡ isNone kind s → r ≡ false →
+        (r : Bool) (what : ℕ) (new : List ℕ) → (kind ≡ n → ⊥) → (kind ≡ calls.s → ⊥) → r ≡ isNone kind s → r ≡ false →
         (what ≡ whatKey (keyOf s)) × (new ≡ putKey (keyOf s) k l) → Told what new
     unfolding whatValue putValue
-    value-key r what new m is t q = rw (ne-eqb _ _ m, ← is, t) q
+    value-key r what new m o is t q = rw (ne-eqb _ _ m, ne-eqb _ _ o, ← is, t) q
 
 module _ (s old : List ℕ) (d : Bool) (is : d ≡ same s dash) where
   pub message-dash : d ≡ true → MessageRead s old old 0 0

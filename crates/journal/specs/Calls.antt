@@ -19,18 +19,24 @@ names =
     ∷ (97 ∷ 100 ∷ 118 ∷ 97 ∷ 110 ∷ 99 ∷ 101 ∷ [])  -- advance
     ∷ (102 ∷ 111 ∷ 114 ∷ 101 ∷ 99 ∷ 97 ∷ 115 ∷ 116 ∷ [])  -- forecast
     ∷ (112 ∷ 97 ∷ 121 ∷ 109 ∷ 101 ∷ 110 ∷ 116 ∷ [])  -- payment
+    ∷ (97 ∷ 100 ∷ 100 ∷ [])  -- add
+    ∷ (114 ∷ 101 ∷ 109 ∷ 111 ∷ 118 ∷ 101 ∷ [])  -- remove
+    ∷ (99 ∷ 114 ∷ 101 ∷ 97 ∷ 116 ∷ 101 ∷ 45 ∷ 115 ∷ 108 ∷ 97 ∷ 115 ∷ 104 ∷ 45 ∷ 101 ∷ 118 ∷ 101 ∷ 110 ∷ 116 ∷ [])  -- create-slash-event
+    ∷ (115 ∷ 108 ∷ 97 ∷ 115 ∷ 104 ∷ [])  -- slash
+    ∷ (102 ∷ 101 ∷ 101 ∷ [])  -- fee
+    ∷ (115 ∷ 116 ∷ 97 ∷ 107 ∷ 101 ∷ 45 ∷ 97 ∷ 99 ∷ 99 ∷ 111 ∷ 117 ∷ 110 ∷ 116 ∷ [])  -- stake-account
     ∷ []
 
 -- how many calls there are, the one that is none counted too
 abbrev pub callCount : ℕ
-callCount = 11
+callCount = 17
 
 -- the call of a name; 0 for a name that is not there
 abbrev pub callOf : List ℕ → ℕ
-callOf s = placeOf s names 1
+callOf name = placeOf name names 1
 
--- kinds of fields, each a letter: `n` a number, `k` a key, `o` a key or none, `m` a message, `p` a path, `l` a list of positions, `w` the words
--- of an image, `.` no field
+-- kinds of fields, each a letter: `n` a number, `k` a key, `o` a key or none, `s` a position's state, `m` a message, `p` a path, `l` a list of
+-- positions, `w` the words of an image, `.` no field
 abbrev pub n : ℕ
 n = 110
 
@@ -39,6 +45,9 @@ k = 107
 
 abbrev pub o : ℕ
 o = 111
+
+abbrev pub s : ℕ
+s = 115
 
 abbrev pub m : ℕ
 m = 109
@@ -69,6 +78,12 @@ fields =
     ∷ (n ∷ n ∷ n ∷ n ∷ m ∷ [])  -- advance NOW Y CUSTODY VERIFIED CAPS
     ∷ (n ∷ n ∷ n ∷ n ∷ m ∷ [])  -- forecast NOW Y CUSTODY VERIFIED CAPS
     ∷ (n ∷ k ∷ k ∷ n ∷ n ∷ o ∷ n ∷ l ∷ [])  -- payment NOW PUBLISHER ACCOUNT RECORD_EPOCH NEXT_INDEX PUBLISHER_ACCOUNT CUSTODY_FLAG POSITIONS
+    ∷ (n ∷ k ∷ k ∷ n ∷ [])  -- add NOW PUBLISHER ACCOUNT AMOUNT
+    ∷ (n ∷ k ∷ k ∷ n ∷ s ∷ [])  -- remove NOW PUBLISHER ACCOUNT AMOUNT STATE
+    ∷ (n ∷ k ∷ n ∷ [])  -- create-slash-event NOW PUBLISHER INDEX
+    ∷ (n ∷ k ∷ k ∷ n ∷ n ∷ n ∷ n ∷ n ∷ n ∷ [])  -- slash NOW PUBLISHER ACCOUNT RECORD_EPOCH NEXT_INDEX INDEX EVENT_EPOCH LOCKED PREUNLOCKING
+    ∷ (n ∷ [])  -- fee FEE
+    ∷ (k ∷ k ∷ k ∷ o ∷ o ∷ l ∷ o ∷ l ∷ [])  -- stake-account PUBLISHER SIGNER AUTHORITY OLD OLD_OWNER OLD_POSITIONS NEW NEW_POSITIONS
     ∷ []
 
 -- the kind of field i of a call

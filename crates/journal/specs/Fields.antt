@@ -17,7 +17,7 @@ use Rattle.text.specs.declared.items.WordsRead.the-variants.{Words, NotWord, La
 use Rattle.text.specs.Decimal.{numberOf}
 use Rattle.text.specs.Hex.{bytesOf, spelled}
 use Rattle.text.specs.Key.{keyOf}
-use Rattle.text.specs.Items.{same, items}
+use Rattle.text.specs.Items.{same, items, placeOf}
 use Rattle.text.specs.Words.{dash, comma, wordsOf, numbers, laid, listOf, listed}
 use Rattle.journal.specs.Calls.{wholeOf}
 use Rattle.journal.specs.Calls as calls
@@ -53,6 +53,15 @@ noInput = 11
 abbrev pub notKey : ℕ
 notKey = 16
 
+abbrev pub notState : ℕ
+notState = 17
+
+abbrev pub noOwner : ℕ
+noOwner = 18
+
+abbrev pub noAccount : ℕ
+noAccount = 19
+
 -- a number
 abbrev pub whatOf : Number → ℕ
 whatOf (Value n) = 0
@@ -78,6 +87,26 @@ putKey (Is a b c d) k l =
     set (set (set (set (set l k 1) (10 + k * 4) a) (10 + k * 4 + 1) b) (10 + k * 4 + 2) c) (10 + k * 4 + 3) d
 putKey NotKey k l = l
 
+-- the states in ASCII, state 1 first
+abbrev pub states : List (List ℕ)
+states =
+    (76 ∷ 79 ∷ 67 ∷ 75 ∷ 73 ∷ 78 ∷ 71 ∷ [])  -- LOCKING
+    ∷ (76 ∷ 79 ∷ 67 ∷ 75 ∷ 69 ∷ 68 ∷ [])  -- LOCKED
+    ∷ (80 ∷ 82 ∷ 69 ∷ 85 ∷ 78 ∷ 76 ∷ 79 ∷ 67 ∷ 75 ∷ 73 ∷ 78 ∷ 71 ∷ [])  -- PREUNLOCKING
+    ∷ (85 ∷ 78 ∷ 76 ∷ 79 ∷ 67 ∷ 75 ∷ 73 ∷ 78 ∷ 71 ∷ [])  -- UNLOCKING
+    ∷ (85 ∷ 78 ∷ 76 ∷ 79 ∷ 67 ∷ 75 ∷ 69 ∷ 68 ∷ [])  -- UNLOCKED
+    ∷ []
+
+-- a state's number; 0 for a name that is not there
+abbrev pub stateOf : List ℕ → ℕ
+stateOf s = placeOf s states 1
+
+abbrev pub whatState : (state : ℕ) → ℕ
+whatState state = cond (eqb state 0) notState 0
+
+abbrev pub putState : (state k : ℕ) → List ℕ → List ℕ
+putState state k l = cond (eqb state 0) l (set l k state)
+
 -- `none` in place of a key
 abbrev pub noneName : List ℕ
 noneName = 110 ∷ 111 ∷ 110 ∷ 101 ∷ []
@@ -85,12 +114,16 @@ noneName = 110 ∷ 111 ∷ 110 ∷ 101 ∷ []
 unfoldable pub isNone : (kind : ℕ) → List ℕ → Bool
 isNone kind s = cond (eqb kind calls.o) (same s noneName) false
 
--- a field of one value: a number, a key, or a key or none, which is 0
+-- a field of one value: a number, a state, a key, or a key or none, which is 0
 unfoldable pub whatValue : (kind : ℕ) → List ℕ → ℕ
-whatValue kind s = cond (eqb kind calls.n) (whatOf (numberOf s)) (cond (isNone kind s) 0 (whatKey (keyOf s)))
+whatValue kind s =
+    cond (eqb kind calls.n) (whatOf (numberOf s)) (cond (eqb kind calls.s) (whatState (stateOf s)) (cond (isNone kind s) 0 (whatKey (keyOf s))))
 
 unfoldable pub putValue : (kind : ℕ) → List ℕ → (k : ℕ) → List ℕ → List ℕ
-putValue kind s k l = cond (eqb kind calls.n) (put (numberOf s) k l) (cond (isNone kind s) (set l k 0) (putKey (keyOf s) k l))
+putValue kind s k l =
+    cond (eqb kind calls.n)
+    (put (numberOf s) k l)
+    (cond (eqb kind calls.s) (putState (stateOf s) k l) (cond (isNone kind s) (set l k 0) (putKey (keyOf s) k l)))
 
 -- a message: how many bytes it has, and what is wrong; `-` is the empty one
 abbrev pub countIn : BytesRead → ℕ

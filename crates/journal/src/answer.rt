@@ -88,7 +88,10 @@ fn reason(out: &mut [u8], pen: Pen, what: u8) -> Pen
         the file is too long\n\
         the file is not whole words\n\
         the file can't be written\n\
-        not a key\n";
+        not a key\n\
+        not a state\n\
+        an account without its owner\n\
+        no account, but its fields\n";
     let from = row_of(reasons, what);
     row(out, pen, reasons, from)
 }

@@ -23,12 +23,26 @@ pub const FORECAST: usize = 9;
 
 pub const PAYMENT: usize = 10;
 
+pub const ADD: usize = 11;
+
+pub const REMOVE: usize = 12;
+
+pub const CREATE_SLASH_EVENT: usize = 13;
+
+pub const SLASH: usize = 14;
+
+pub const FEE: usize = 15;
+
+pub const STAKE_ACCOUNT: usize = 16;
+
 // Kinds of fields.
 pub const NUMBER: u8 = b'n';
 
 pub const KEY: u8 = b'k';
 
 pub const KEY_OR_NONE: u8 = b'o';
+
+pub const STATE: u8 = b's';
 
 pub const MESSAGE: u8 = b'm';
 
@@ -41,7 +55,7 @@ pub const WORDS: u8 = b'w';
 pub const NONE: u8 = b'.';
 
 // A row of kinds for each call, from row 1 on. A call has at most nine fields, so that every row ends with none.
-const KINDS: [u8; 110] = *b"\
+const KINDS: [u8; 170] = *b"\
     ..........\
     nn........\
     nn........\
@@ -52,7 +66,13 @@ const KINDS: [u8; 110] = *b"\
     n.........\
     nnnnm.....\
     nnnnm.....\
-    nkknnonl..";
+    nkknnonl..\
+    nkkn......\
+    nkkns.....\
+    nkn.......\
+    nkknnnnnn.\
+    n.........\
+    kkkoolol..";
 
 // The call of a name, 0 where there is none.
 pub fn call_of(s: &[u8]) -> usize
@@ -60,7 +80,8 @@ pub fn call_of(s: &[u8]) -> usize
 {
     text::items::place(
         s,
-        b"new settings image nonzero load save fresh advance forecast payment",
+        b"new settings image nonzero load save fresh advance forecast payment \
+          add remove create-slash-event slash fee stake-account",
     )
 }
 

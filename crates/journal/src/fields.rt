@@ -5,7 +5,7 @@ ghost use lib.ListN.{length};
 ghost use Rattle.text.specs.Decimal.{numberOf};
 ghost use Rattle.text.specs.Key.{keyOf};
 ghost use Rattle.journal.specs.Held.{Unread, Parted};
-ghost use Rattle.journal.specs.Fields.{whatOf, put, whatKey, putKey, isNone, whatValue, putValue, MessageRead, PathRead, countWords, whatWords, ListRead, roomOf, unendedOf};
+ghost use Rattle.journal.specs.Fields.{whatOf, put, whatKey, putKey, stateOf, whatState, putState, isNone, whatValue, putValue, MessageRead, PathRead, countWords, whatWords, ListRead, roomOf, unendedOf};
 use crate::calls;
 use crate::input;
 use text::BytesRead;
@@ -47,6 +47,12 @@ pub const CANNOT_WRITE: u8 = 15;
 
 pub const NOT_KEY: u8 = 16;
 
+pub const NOT_STATE: u8 = 17;
+
+pub const NO_OWNER: u8 = 18;
+
+pub const NO_ACCOUNT: u8 = 19;
+
 // The words of a position list: 257 positions, one more than the library accepts.
 pub const POSITIONS_ROOM: usize = 2313;
 
@@ -56,8 +62,8 @@ pub struct Stored {
     pub what: u8,
 }
 
-// A line's numbers and keys with one field more, and what was wrong, or 0. Word k is the number of field k. Of a key it says whether there is
-// one, and the key's words stand from 10 + 4 * k on.
+// A line's numbers and keys with one field more, and what was wrong, or 0. Word k is the number of field k, of a state its
+// place among the states. Of a key it says whether there is one, and the key's words stand from 10 + 4 * k on.
 pub struct Values {
     pub args: [u64; 50],
     pub what: u8,
@@ -119,6 +125,22 @@ fn key(s: &[u8], mut args: [u64; 50], k: usize) -> Values
     }
 }
 
+// A position's state, the first being 1.
+fn state(s: &[u8], mut args: [u64; 50], k: usize) -> Values
+    requires { ⌜ k < 10 ⌝ }
+    ensures { λ r. ⌜ (r .what ≡ whatState (stateOf (now (s .entry)))) × (r .args ≡ putState (stateOf (now (s .entry))) k args) ⌝ }
+{
+    let state = items::place(s, b"LOCKING LOCKED PREUNLOCKING UNLOCKING UNLOCKED");
+    if state == 0 {
+        return Values {
+            args,
+            what: NOT_STATE,
+        };
+    }
+    args[k] = state as u64;
+    Values { args, what: 0 }
+}
+
 // Whether a field says that there is no key.
 fn is_none(kind: u8, s: &[u8]) -> bool
     ensures { λ r. ⌜ r ≡ isNone kind (now (s .entry)) ⌝ }
@@ -129,13 +151,16 @@ fn is_none(kind: u8, s: &[u8]) -> bool
     items::same(s, b"none")
 }
 
-// A field of one value: a number, a key, or a key or none.
+// A field of one value: a number, a state, a key, or a key or none.
 pub fn value(kind: u8, s: &[u8], mut args: [u64; 50], k: usize) -> Values
     requires { ⌜ k < 10 ⌝ }
     ensures { λ r. ⌜ (r .what ≡ whatValue kind (now (s .entry))) × (r .args ≡ putValue kind (now (s .entry)) k args) ⌝ }
 {
     if kind == calls::NUMBER {
         return number(s, args, k);
+    }
+    if kind == calls::STATE {
+        return state(s, args, k);
     }
     if is_none(kind, s) {
         args[k] = 0;

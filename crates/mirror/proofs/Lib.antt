@@ -1,1 +1,2 @@
 pub mod SiteLaws
+pub mod ArgsLaws

@@ -1,4 +1,4 @@
--- Laws of an image's zeros, of a copy, and of keys among a line's fields. Assumes nothing.
+-- Laws of an image's zeros and of a copy. Assumes nothing.
 use mathlib.Core.Path.{_≡_, sym, subst}
 use mathlib.Core.Logic.{_⊎_, ⊎-elim}
 use mathlib.Core.List.{List}
@@ -7,10 +7,7 @@ use native.Mathlib.Nat.{eq-or-lt-of-le}
 use native.Mathlib.Omega.{arith}
 use lib.ListN.{length, getD}
 use lib.Seq.{paste}
-use borrow.Author.Tests.{eq-eqb, ne-eqb}
-use Rattle.positions.specs.declared.Key.{Key}
-use Rattle.positions.specs.declared.OptionKey.the-variants.{Some, None}
-use Rattle.mirror.specs.Site.{NextNonzero, keyAt, keyOrNone}
+use Rattle.mirror.specs.Site.{NextNonzero}
 
 -- every word from `from` to i is 0
 pub record Passed (image : List ℕ) (from i : ℕ) : Type 0 where
@@ -39,12 +36,3 @@ module _ (l : List ℕ) (from i : ℕ) where
 pub copied :
     (old new words : List ℕ) (i : ℕ) → length words ≤ i → i ≤ length words → new ≡ paste old 0 words i → new ≡ paste old 0 words (length words)
 copied old new words i low high e = let q : i ≡ length words = omega arith in rw q at e
-
-module _ (args : List ℕ) (k : ℕ) where
-  pub no-key : getD args k 0 ≡ 0 → None ≡ keyOrNone args k
-  unfolding keyOrNone
-  no-key e = rw (eq-eqb _ _ e)
-
-  pub some-key : (r : Key) → (getD args k 0 ≡ 0 → ⊥) → r ≡ keyAt args k → Some r ≡ keyOrNone args k
-  unfolding keyOrNone
-  some-key r n e = rw (ne-eqb _ _ n, e)

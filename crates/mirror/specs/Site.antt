@@ -1,14 +1,8 @@
 -- What holds of the program's positions in its buffers. Assumes nothing.
 use mathlib.Core.Path.{_≡_}
 use mathlib.Core.List.{List}
-use mathlib.Core.Bool.{cond}
-use Prim.Native.Nat.{ℕ, _+_, _*_, _≤_, _<_}
-use lib.Dec.{eqb}
+use Prim.Native.Nat.{ℕ, _≤_, _<_}
 use lib.ListN.{length, getD}
-use Rattle.positions.specs.declared.Key.{Key}
-use Rattle.positions.specs.declared.OptionKey.{OptionKey}
-use Rattle.positions.specs.declared.OptionKey.the-variants.{Some, None}
-use Rattle.positions.specs.Positions.{keyFrom}
 
 -- a call may be made: the image, `size` words, and the answers, written up to `at`, lie within their buffers, and any image has room
 pub record Ready (size at pool out : ℕ) : Type 0 where
@@ -48,11 +42,3 @@ pub record NextNonzero (image : List ℕ) (i r : ℕ) : Type 0 where
   pub within : r ≤ length image
   pub zeros : (k : ℕ) → i ≤ k → k < r → getD image k 0 ≡ 0
   pub nonzero : r < length image → getD image r 0 ≡ 0 → ⊥
-
--- the key of field k, as the journal's reader left it among a line's numbers and keys
-abbrev pub keyAt : List ℕ → (k : ℕ) → Key
-keyAt args k = keyFrom args (10 + k * 4)
-
--- the key of field k, or none
-unfoldable pub keyOrNone : List ℕ → (k : ℕ) → OptionKey
-keyOrNone args k = cond (eqb (getD args k 0) 0) None (Some (keyAt args k))

@@ -1,6 +1,7 @@
 // A line's call goes to its kind.
 ghost use lib.ListN.{length};
 ghost use Rattle.mirror.specs.Site.{Ready, Kept, Held};
+use crate::change_calls::change_call;
 use crate::image_calls::file_call;
 use crate::image_calls::image_call;
 use crate::pool_calls::pool_call;
@@ -34,6 +35,8 @@ pub fn act(
     let field = &bytes[..n];
     let from = line.list;
     let to = line.words;
+    // A line has at most two lists: the first ends where the last begins.
+    let first = &words[..from];
     let list = &words[from..to];
     if call <= calls::SETTINGS {
         return site_call(call, site, args, pool, out, pen);
@@ -44,5 +47,8 @@ pub fn act(
     if call <= calls::SAVE {
         return file_call(call, site, field, pool, out, pen);
     }
-    pool_call(call, site, args, field, list, pool, out, pen)
+    if call <= calls::PAYMENT {
+        return pool_call(call, site, args, field, list, pool, out, pen);
+    }
+    change_call(call, site, args, first, list, pool, out, pen)
 }

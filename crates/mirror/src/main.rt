@@ -1,5 +1,7 @@
 // The program over the journal: it reads a line's fields, makes the call, and writes its answer.
+mod args;
 mod calls;
+mod change_calls;
 mod image_calls;
 mod pool_calls;
 mod site;

@@ -1,25 +1,21 @@
-// The calls that the library answers.
-ghost use mathlib.Core.Path.{_≡_};
-ghost use Prim.Native.Nat.{_≤_, _<_};
+// The calls that close epochs, and payments.
+ghost use Prim.Native.Nat.{_≤_};
 ghost use lib.ListN.{length};
 ghost use Rattle.journal.specs.Held.{Writable};
-ghost use Rattle.mirror.specs.Site.{Ready, Kept, keyAt, keyOrNone};
+ghost use Rattle.mirror.specs.Site.{Ready, Kept};
+use crate::args;
 use crate::site::Done;
 use crate::site::Site;
 use crate::site::finished;
 use integrity_pool::FreshAnswer;
 use integrity_pool::payment;
 use integrity_pool::payment::Claim;
-use integrity_pool::payment::DelegationRecord;
 use integrity_pool::payment::PaymentAnswer;
 use journal::answer;
 use journal::calls;
 use journal::output::Pen;
 use pool::advance::AdvanceAnswer;
 use pool::advance::ForecastAnswer;
-use positions::Key;
-use positions::OptionKey;
-use types::Epoch;
 
 // fresh EPOCH
 fn fresh(site: Site, args: [u64; 50], image: &mut [u64], out: &mut [u8], pen: Pen) -> Pen
@@ -76,35 +72,12 @@ fn forecast(
     }
 }
 
-// The key of field k.
-fn key(args: [u64; 50], k: usize) -> Key
-    requires { ⌜ k < 10 ⌝ }
-    ensures { λ r. ⌜ r ≡ keyAt args k ⌝ }
-{
-    let i = 10 + k * 4;
-    Key(args[i], args[i + 1], args[i + 2], args[i + 3])
-}
-
-// The key of field k, or none.
-fn key_or_none(args: [u64; 50], k: usize) -> OptionKey
-    requires { ⌜ k < 10 ⌝ }
-    ensures { λ r. ⌜ r ≡ keyOrNone args k ⌝ }
-{
-    if args[k] == 0 {
-        return OptionKey::None;
-    }
-    OptionKey::Some(key(args, k))
-}
-
 // What a payment is given besides the image and the positions.
 fn claim(args: [u64; 50], unlocking_duration: u64) -> Claim {
-    let found = DelegationRecord {
-        last_epoch: Epoch(args[3]),
-        next_slash_event_index: args[4],
-    };
-    let publisher = key(args, 1);
-    let account = key(args, 2);
-    let publisher_account = key_or_none(args, 5);
+    let found = args::delegation_record(args);
+    let publisher = args::key(args, 1);
+    let account = args::key(args, 2);
+    let publisher_account = args::key_or_none(args, 5);
     Claim {
         delegation_record: found,
         publisher,
@@ -171,7 +144,7 @@ fn epoch_call(
     forecast(site, args, message, image, out, pen)
 }
 
-// Calls that the library answers.
+// A payment, or a call that closes epochs.
 fn ask(
     call: usize,
     site: Site,

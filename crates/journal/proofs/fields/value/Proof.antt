@@ -1,5 +1,5 @@
 -- `journal::fields::value` meets its contract. Assumes nothing.
-use Rattle.journal.proofs.FieldsLaws.{value-number, value-none, value-key}
+use Rattle.journal.proofs.FieldsLaws.{value-number, value-state, value-none, value-key}
 use native.Mathlib.Omega.{arith}
 use borrow.Author.Needs.{needs}
 use Rattle.journal.proofs.fields.value.Statement.{statement}
@@ -11,6 +11,12 @@ number-requires c κs = search needs
 returns : tie.Need-returns
 returns c = value-number _ _ _ _ _ _ (omega arith) (c .number .ensures)
 
+state-requires : tie.Need-state-requires
+state-requires c κs = search needs
+
+returns-2 : tie.Need-returns-2
+returns-2 c = value-state _ _ _ _ _ _ (c .before .before .if1 .left) (omega arith) (c .state .ensures)
+
 is-none-requires : tie.Need-is-none-requires
 is-none-requires c κs = search needs
 
@@ -20,15 +26,17 @@ mul-args c = search needs
 array-write-args : tie.Need-array-write-args
 array-write-args c = search needs
 
-returns-2 : tie.Need-returns-2
-returns-2 c = value-none _ _ _ _ _ (c .before .before .if1 .left) (c .before .is-none .ensures) (c .if2 .taken)
+returns-3 : tie.Need-returns-3
+returns-3 c =
+    value-none _ _ _ _ _ (c .before .before .before .if1 .left) (c .before .before .if2 .left) (c .before .is-none .ensures) (c .if3 .taken)
 
 key-requires : tie.Need-key-requires
 key-requires c κs = search needs
 
-returns-3 : tie.Need-returns-3
-returns-3 c =
-    value-key _ _ _ _ _ _ _ (c .before .before .before .if1 .left) (c .before .before .is-none .ensures) (c .before .if2 .left) (c .key .ensures)
+returns-4 : tie.Need-returns-4
+returns-4 c =
+    value-key _ _ _ _ _ _ _ (c .before .before .before .before .if1 .left) (c .before .before .before .if2 .left) (c .before .before .is-none .ensures)
+    (c .before .if3 .left) (c .key .ensures)
 
 pub value-spec : {M : Type 1} → statement M
 value-spec =
@@ -36,9 +44,11 @@ value-spec =
     (tie.spec
     number-requires
     returns
+    state-requires
+    returns-2
     is-none-requires
     mul-args
     array-write-args
-    returns-2
+    returns-3
     key-requires
-    returns-3)
+    returns-4)

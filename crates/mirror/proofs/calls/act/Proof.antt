@@ -14,6 +14,9 @@ returns c = search needs
 slice-aggregate-field : tie.Need-slice-aggregate-field
 slice-aggregate-field c = simp length-take (omega arith)
 
+slice-aggregate-first : tie.Need-slice-aggregate-first
+slice-aggregate-first c = simp length-take (omega arith)
+
 mul-list : tie.Need-mul-list
 mul-list c = search needs
 
@@ -74,6 +77,18 @@ same-length-8 c = search needs
 returns-5 : tie.Need-returns-5
 returns-5 c = search needs
 
+change-call-requires : tie.Need-change-call-requires
+change-call-requires c κs = search needs
+
+same-length-9 : tie.Need-same-length-9
+same-length-9 c = search needs
+
+same-length-10 : tie.Need-same-length-10
+same-length-10 c = search needs
+
+returns-6 : tie.Need-returns-6
+returns-6 c = search needs
+
 pub act-spec : {M : Type 1} → statement M
 act-spec =
     tie.close
@@ -81,6 +96,7 @@ act-spec =
     finished-requires
     returns
     slice-aggregate-field
+    slice-aggregate-first
     mul-list
     sub-list
     part-list-start
@@ -100,4 +116,8 @@ act-spec =
     pool-call-requires
     same-length-7
     same-length-8
-    returns-5)
+    returns-5
+    change-call-requires
+    same-length-9
+    same-length-10
+    returns-6)

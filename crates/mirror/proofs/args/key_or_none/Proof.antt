@@ -1,9 +1,9 @@
--- `mirror::pool_calls::key_or_none` meets its contract. Assumes nothing.
-use Rattle.mirror.proofs.SiteLaws.{no-key, some-key}
+-- `mirror::args::key_or_none` meets its contract. Assumes nothing.
+use Rattle.mirror.proofs.ArgsLaws.{no-key, some-key}
 use native.Mathlib.Omega.{arith}
 use borrow.Author.Needs.{needs}
-use Rattle.mirror.proofs.pool_calls.key_or_none.Statement.{statement}
-use Rattle.mirror.proofs.pool_calls.key_or_none.Tie as tie
+use Rattle.mirror.proofs.args.key_or_none.Statement.{statement}
+use Rattle.mirror.proofs.args.key_or_none.Tie as tie
 
 mul-if1 : tie.Need-mul-if1
 mul-if1 c = search needs
