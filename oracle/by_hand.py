@@ -1,7 +1,9 @@
-"""Images and payments written by hand, for the cases and for the table."""
+"""Images, payments and changes written by hand, for the cases and for the table."""
 import model
+import operations
 import payments
 from model import M, Payment
+from operations import Accounts, Change, Creation, Slash
 
 A, B, C, D, STAKE, ACCOUNT = (bytes([n]).ljust(32, b"\0") for n in (1, 2, 3, 4, 7, 9))
 SHARE = (M, 500_000, 200_000)       # self ratio, other ratio, fee
@@ -10,6 +12,11 @@ SHARE = (M, 500_000, 200_000)       # self ratio, other ratio, fee
 def last_byte(key):
     """A key that differs in the last byte alone."""
     return key[:31] + bytes([key[31] ^ 1])
+
+
+def row(key, cap=model.WORD - 1):
+    """A caps message's row."""
+    return key + cap.to_bytes(8, "big")
 
 
 def pool(epochs=(9, 8, 7, 6), p=1, e=4, n=None, last=10, claimable=M, keys=(A,), stakes=(STAKE,), y=10_000, shares=(SHARE,), unread=0):
@@ -37,3 +44,42 @@ def payment(*positions, now=10, publisher=A, account=ACCOUNT, epoch=0, index=3, 
     """A payment's line; its positions as one list of words where they are no positions."""
     words = [w for nine in positions for w in nine] if words is None else words
     return payments.line(Payment(now, publisher, account, epoch, index, other, flag, words, 0))
+
+
+# Changes.
+
+def seats(keys=(A,), stakes=(STAKE,), own=(), other=(), slashes=(), fees=(), last=10, n=0, p=2, e=1, claimable=0):
+    """The words of an image by its seats: sides as (total, change)."""
+    words = pool([], p, e, n, last, claimable, keys, stakes)
+    found = model.Pool(p, e, words)
+    for at, sides in ((found.own, own), (found.other, other)):
+        words[at:at + 2 * len(sides)] = [x % model.WORD for side in sides for x in side]
+    for at, listed in ((found.slashes, slashes), (found.fees, fees)):
+        words[at:at + len(listed)] = listed
+    return words
+
+
+def add(amount, now=10, publisher=A, account=ACCOUNT):
+    return operations.line("add", Change(now, publisher, account, amount))
+
+
+def remove(amount, state="LOCKED", now=10, publisher=A, account=ACCOUNT):
+    return operations.line("remove", Change(now, publisher, account, amount, state))
+
+
+def create(index, now=10, publisher=A):
+    return operations.line("create-slash-event", Creation(now, publisher, index))
+
+
+def slash(locked=0, preunlocking=0, now=10, event=None, index=0, next_index=None, epoch=None, publisher=A, account=ACCOUNT):
+    """Unless given: the event's epoch and the record's are the current one, the record's next index is the index."""
+    epoch, event, next_index = now if epoch is None else epoch, now if event is None else event, index if next_index is None else next_index
+    return operations.line("slash", Slash(now, publisher, account, epoch, next_index, index, event, locked, preunlocking))
+
+
+def fee(its):
+    return operations.line("fee", its)
+
+
+def stake_account(new=ACCOUNT, new_words=(), old=None, owner=None, old_words=(), signer=A, authority=B, publisher=A):
+    return operations.line("stake-account", Accounts(publisher, signer, authority, old, owner, list(old_words), new, list(new_words)))

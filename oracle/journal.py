@@ -4,6 +4,7 @@ import subprocess
 from typing import NamedTuple, Optional
 
 import model
+import operations
 
 HERE = os.path.dirname(os.path.abspath(__file__))
 MOST_EPOCHS = 100_000       # the oracle's, driver/checks.rs
@@ -15,7 +16,7 @@ LISTED = "the model: listed"        # a difference that docs/DIFFERENCES.md list
 APART = "the model: behind those"   # the image after one of the two, before both have the same again
 
 # The calls that can be refused, and the level that each came with.
-CALLS = {"fresh": "watch", "advance": "watch", "forecast": "watch", "payment": "pay"}
+CALLS = {"fresh": "watch", "advance": "watch", "forecast": "watch", "payment": "pay", **dict.fromkeys(operations.NAMES, "operate")}
 
 
 class Line(NamedTuple):

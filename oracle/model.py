@@ -1,4 +1,5 @@
-"""Document 01's fresh, advance, forecast and payment on whole numbers, and the journal's lines around them.
+"""Document 01's calls on whole numbers, and the journal's lines around them: fresh, advance, forecast and payment; the changes of item 9
+are operations.py's, the image is image.py's.
 
 Written from document 01's words. It answers where the Rust can't be asked (checks 1 to 5, very many
 passed epochs), and is compared with the Rust wherever that can be asked. Where docs/DIFFERENCES.md lists
@@ -7,85 +8,11 @@ that the Rust goes on, it has both answers, document 01's and the Rust's.
 import copy
 from typing import NamedTuple, Optional
 
-M = 1_000_000
-WORD = 2**64
-HALF = 2**63
+import operations
+from image import (HALF, M, MOST_POSITIONS, WORD, ZERO_KEY, Listed, Pool, Refused, in_range, length, numbers_of, positions_of, refuse,
+                   words_of)
+
 MOST_Y = 10_000
-MOST_POSITIONS = 256
-ZERO_KEY = bytes(32)
-
-
-class Refused(Exception):
-    """Its one argument is document 01's number."""
-
-
-class Listed(Refused):
-    """Where the Rust goes on."""
-
-
-def refuse(number, condition):
-    if condition:
-        raise Refused(number)
-
-
-def in_range(p, e):
-    return 1 <= p <= 1_024 and 1 <= e <= 52
-
-
-def length(p, e):
-    return 3 + 14 * p + e * (9 + 3 * p)
-
-
-def words_of(key):
-    """A key's four words."""
-    return [int.from_bytes(key[i:i + 8], "little") for i in range(0, 32, 8)]
-
-
-class Pool:
-    """An image and where its words stand. Refusal 1 where there is none; n is looked at in `checked`."""
-
-    def __init__(self, p, e, words):
-        refuse(1, not in_range(p, e) or len(words) != length(p, e))
-        self.p, self.e, self.words = p, e, words
-        self.other = 2 + 4 * p          # P sides: total, signed change
-        self.own = self.other + 2 * p
-        self.stake_accounts = self.own + 2 * p
-        self.events = self.stake_accounts + 4 * p
-        self.n = self.events + e * (9 + 3 * p)
-        self.slashes = self.n + 1
-        self.fees = self.slashes + p
-
-    def checked(self):
-        refuse(1, self.words[self.n] >= HALF)
-        return self
-
-    def event(self, index):
-        return self.events + index % self.e * (9 + 3 * self.p)
-
-    def key_at(self, at):
-        return b"".join(w.to_bytes(8, "little") for w in self.words[at:at + 4])
-
-    def key(self, seat):
-        return self.key_at(2 + 4 * seat)
-
-    def stake_account(self, seat):
-        return self.key_at(self.stake_accounts + 4 * seat)
-
-    def seats(self):
-        """The keys up to the first zero key."""
-        keys = []
-        while len(keys) < self.p and (key := self.key(len(keys))) != ZERO_KEY:
-            keys.append(key)
-        return keys
-
-    def seat_of(self, publisher):
-        """Refusals 10 and 11; over all seats, first match."""
-        refuse(10, publisher == ZERO_KEY)
-        wanted = words_of(publisher)
-        for seat in range(self.p):
-            if self.words[2 + 4 * seat:6 + 4 * seat] == wanted:
-                return seat
-        raise Refused(11)
 
 
 class Caps(NamedTuple):
@@ -197,23 +124,6 @@ def write_seats(pool, new, seats, seated):
         new[2 + 4 * seat:6 + 4 * seat] = words_of(key)
 
 
-class Position(NamedTuple):
-    kind: int           # 0 empty, 1 voting, 2 pool
-    amount: int
-    activation: int
-    flag: int
-    start: int
-    key: bytes
-
-
-def positions_of(words):
-    """Refusal 4. Of an empty position only the kind is read."""
-    refuse(4, len(words) % 9 or len(words) > 9 * MOST_POSITIONS)
-    nines = [words[at:at + 9] for at in range(0, len(words), 9)]
-    refuse(4, any(w[0] > 2 or (w[0] and w[3] > 1) for w in nines))
-    return [Position(*w[:5], b"".join(x.to_bytes(8, "little") for x in w[5:])) for w in nines]
-
-
 def state(position, epoch, unlocking):
     """Item 6."""
     if epoch < position.activation:
@@ -270,11 +180,6 @@ class Payment(NamedTuple):
     custody_flag: int       # 0 is absent
     positions: list         # words
     unlocking: int
-
-
-def numbers_of(field):
-    """A word list of the journal."""
-    return [] if field == "-" else list(map(int, field.split(",")))
 
 
 def payment_of(fields, unlocking):
@@ -398,6 +303,11 @@ class Site:
         self.words = [p.now, pool.words[1] - sum(both)] + pool.words[2:]
         return [*both, p.now, p.next_index, reads]
 
+    def change(self, name, x):
+        """One of item 9's changes."""
+        self.words, answer = operations.asked(self.pool().checked(), name, x)
+        return answer
+
     def image(self, words):
         self.words = words
         return [len(words)]
@@ -409,6 +319,8 @@ class Site:
             return getattr(self, name)(Advance(*map(int, numbers), message, self.seconds))
         if name == "payment":
             return self.payment(payment_of(fields, self.unlocking))
+        if name in operations.NAMES:
+            return self.change(name, operations.given(name, fields))
         if name == "nonzero":
             return [f"{i}:{w}" for i, w in enumerate(self.words) if w]
         if name == "image" and fields:
