@@ -49,7 +49,7 @@ pub record History : Type 0 where
   pub occupied : (epoch s : ℕ) → Bool
   -- the total that the event was written from
   pub written : (epoch s : ℕ) → Whose → ℕ
-  -- what accepted payments drew
+  -- what accepted payments drew; Letter adds what refused ones drew
   pub drawn : (epoch s : ℕ) → Whose → ℕ
 
 -- the pool's image, the custody balance, and the history
