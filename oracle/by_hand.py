@@ -7,6 +7,7 @@ from operations import Accounts, Change, Creation, Slash
 
 A, B, C, D, STAKE, ACCOUNT = (bytes([n]).ljust(32, b"\0") for n in (1, 2, 3, 4, 7, 9))
 SHARE = (M, 500_000, 200_000)       # self ratio, other ratio, fee
+WEEK = 604_800
 
 
 def last_byte(key):
@@ -57,6 +58,15 @@ def seats(keys=(A,), stakes=(STAKE,), own=(), other=(), slashes=(), fees=(), las
     for at, listed in ((found.slashes, slashes), (found.fees, fees)):
         words[at:at + len(listed)] = listed
     return words
+
+
+def say_cases(t, cases):
+    """The lines of cases in a journal; they leave settings of their own, so a week and 1 come back behind them."""
+    for case in cases:
+        t.comment(case.says)
+        for line in case.journal.splitlines():
+            t.say(line)
+    t.say(f"settings {WEEK} 1")
 
 
 def add(amount, now=10, publisher=A, account=ACCOUNT):

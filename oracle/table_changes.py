@@ -2,19 +2,13 @@
 import cases_changes
 import generate
 import stakers
-from by_hand import A, ACCOUNT, B, C, D, STAKE, add, create, fee, payment, remove, row, slash, stake, stake_account
+from by_hand import A, ACCOUNT, B, C, D, STAKE, WEEK, add, create, fee, payment, remove, row, say_cases, slash, stake, stake_account
 from model import HALF, M, WORD, ZERO_KEY
-
-WEEK = 604_800
 
 
 def changes_by_hand(t):
     """Changes: each sentence of document 01's item 9, and each refusal at its edge and in its order."""
-    for case in cases_changes.CHANGES:
-        t.comment(case.says)
-        for line in case.journal.splitlines():
-            t.say(line)
-    t.say(f"settings {WEEK} 1")
+    say_cases(t, cases_changes.CHANGES)
 
 
 def advance(t, now, caps, custody=WORD - 1):

@@ -1,20 +1,15 @@
 """The table's groups with payments."""
 import cases
 import model
-from by_hand import A, B, C, D, STAKE, payment, pool, row, stake
+from by_hand import A, B, C, D, STAKE, payment, pool, row, say_cases, stake
 from model import M, WORD, ZERO_KEY
 
-WEEK = 604_800
 ENOUGH = WORD - 1       # custody that covers all
 
 
 def payments_by_hand(t):
     """Payments: each sentence of document 01's item 8, and each refusal at its edge."""
-    for case in cases.PAYMENTS:
-        t.comment(case.says)
-        for line in case.journal.splitlines():
-            t.say(line)
-    t.say(f"settings {WEEK} 1")
+    say_cases(t, cases.PAYMENTS)
 
 
 def payments_on_a_list(t):
