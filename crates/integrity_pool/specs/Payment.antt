@@ -13,7 +13,8 @@ use Rattle.positions.specs.Positions.{positionsHold}
 use Rattle.image.specs.Layout.{lastUpdatedEpoch, claimableRewards, numEvents, head, seat, slot, share, Words, read, image}
 use Rattle.image.specs.Seats.{checkedImage, zeroKey, stakeAccountAt, publisherIndexOf}
 use Rattle.image.specs.Changes.{selfSide}
-use Rattle.pool.specs.Reward.{Earned, calculateReward}
+use Rattle.event_walk.specs.declared.EventAmounts.{EventAmounts}
+use Rattle.pool.specs.Reward.{Earned, calculateReward, rewardOf}
 -- last_epoch and next_slash_event_index
 use Rattle.integrity_pool.specs.declared.payment.DelegationRecord.{DelegationRecord}
 -- delegation_record, publisher, stake_account_positions (the account), publisher_stake_account_positions (the publisher account),
@@ -82,6 +83,15 @@ paymentAt E w words c s =
 unfoldable pub paymentOf : (P E : ℕ) → Words → List ℕ → Claim → Outcome Payment
 paymentOf P E w words c = andThen (publisherIndexOf P w (c .publisher)) (paymentAt E w words c)
 
+-- the same two from the gathered amounts on, however the positions were handed over
+unfoldable pub gatheredPaymentAt : (E : ℕ) → Words → EventAmounts → Claim → (s : ℕ) → Outcome Payment
+gatheredPaymentAt E w g c s =
+    if not (eqb (w (head lastUpdatedEpoch)) (c .«current_epoch»)) then refused outdatedPublisherAccounting
+    else andThen (rewardOf E w s g (selfSide w s (c .«stake_account_positions»))) (payOut (w (head claimableRewards)) (stakeAccountAt w s) c)
+
+unfoldable pub gatheredPayment : (P E : ℕ) → Words → EventAmounts → Claim → Outcome Payment
+gatheredPayment P E w g c = andThen (publisherIndexOf P w (c .publisher)) (gatheredPaymentAt E w g c)
+
 -- 'Both parts leave claimable'; no other word changes
 abbrev pub paidWords : Words → (paid : ℕ) → Words
 paidWords w paid (head lastUpdatedEpoch) = w (head lastUpdatedEpoch)
@@ -90,6 +100,10 @@ paidWords w paid (head numEvents) = w (head numEvents)
 paidWords w paid (seat s x) = w (seat s x)
 paidWords w paid (slot t x) = w (slot t x)
 paidWords w paid (share t s x) = w (share t s x)
+
+-- the image after a payment; a refused one leaves it as it was
+abbrev pub paidImage : (P E : ℕ) → List ℕ → Outcome Payment → List ℕ
+paidImage P E img o = after o (λ a. image P E (paidWords (read P E img) (a .delegator + a .publisher))) img
 
 -- ---- the call: '1 to 6 first, by number', 1 and 4 here
 
@@ -100,7 +114,7 @@ paymentCall P E img words c =
     else paymentOf P E (read P E img) words c
 
 unfoldable pub paymentImage : (P E : ℕ) → List ℕ → List ℕ → Claim → List ℕ
-paymentImage P E img words c = after (paymentCall P E img words c) (λ a. image P E (paidWords (read P E img) (a .delegator + a .publisher))) img
+paymentImage P E img words c = paidImage P E img (paymentCall P E img words c)
 
 abbrev pub paymentIs : PaymentAnswer → Outcome Payment
 paymentIs (payment.Paid d p fall kept reads) =

@@ -1,12 +1,13 @@
 // Item 8: a payment, the Rust's advance_delegation_record around calculate_reward.
 ghost use mathlib.Core.Path.{_≡_};
-ghost use Prim.Native.Nat.{_+_, _/_, _≤_, _<_};
-ghost use lib.ListN.{length};
+ghost use Prim.Native.Nat.{_+_, _<_};
 ghost use Rattle.types.specs.Base.{word};
 ghost use Rattle.image.specs.Layout.{read};
 ghost use Rattle.image.specs.Seats.{Sized};
 ghost use Rattle.pool.specs.Reward.{earnedIs};
-ghost use Rattle.integrity_pool.specs.Payment.{recordAt, fallIs, custodyFall, payOut, paymentAt, paymentOf, paymentIs, paymentCall, paymentImage};
+ghost use Rattle.integrity_pool.specs.Payment.{recordAt, fallIs, custodyFall, payOut, gatheredPaymentAt, gatheredPayment, paidImage, paymentIs, paymentCall, paymentImage};
+use event_amounts::gather;
+use event_walk::EventAmounts;
 use image::seats::PublisherIndex;
 use image::seats::get_publisher_index;
 use image::seats::publisher_stake_account;
@@ -144,11 +145,11 @@ fn payment_at(
     p: usize,
     e: usize,
     s: usize,
-    words: &[u64],
+    gathered: EventAmounts,
     claim: Claim,
 ) -> PaymentAnswer
-    requires { ⌜ Sized (now pool) p e × (s < p) × (length (now words) / 9 ≤ 256) ⌝ }
-    ensures { λ r. ⌜ paymentIs r ≡ paymentAt e (read p e (now (pool .entry))) (now (words .entry)) claim s ⌝ }
+    requires { ⌜ Sized (now pool) p e × (s < p) ⌝ }
+    ensures { λ r. ⌜ paymentIs r ≡ gatheredPaymentAt e (read p e (now (pool .entry))) gathered claim s ⌝ }
 {
     let current = claim.current_epoch;
     if pool[0] != current {
@@ -157,37 +158,64 @@ fn payment_at(
     let stake_account = publisher_stake_account(pool, p, e, s);
     let account = claim.stake_account_positions;
     let is_publisher = same_key(stake_account, account);
-    let publisher = claim.publisher;
-    let found = claim.delegation_record;
-    let from = found.last_epoch.0;
-    let calculated = calculate_reward(
-        pool,
-        p,
-        e,
-        s,
-        words,
-        publisher,
-        from,
-        claim.unlocking_duration,
-        is_publisher,
-    );
+    let calculated = calculate_reward(pool, p, e, s, gathered, is_publisher);
     match calculated {
         Calculated::DoesNotFit => PaymentAnswer::Refused(DOES_NOT_FIT),
         Calculated::Earned(earned) => pay(pool[1], stake_account, claim, earned),
     }
 }
 
-// A payment on an image and a list that have been checked, nothing written.
-fn payment_of(pool: &[u64], p: usize, e: usize, words: &[u64], claim: Claim) -> PaymentAnswer
-    requires { ⌜ Sized (now pool) p e × (length (now words) / 9 ≤ 256) ⌝ }
-    ensures { λ r. ⌜ paymentIs r ≡ paymentOf p e (read p e (now (pool .entry))) (now (words .entry)) claim ⌝ }
+// A payment on a checked image, nothing written.
+fn payment_of(
+    pool: &[u64],
+    p: usize,
+    e: usize,
+    gathered: EventAmounts,
+    claim: Claim,
+) -> PaymentAnswer
+    requires { ⌜ Sized (now pool) p e ⌝ }
+    ensures { λ r. ⌜ paymentIs r ≡ gatheredPayment p e (read p e (now (pool .entry))) gathered claim ⌝ }
 {
     let publisher = claim.publisher;
     let index = get_publisher_index(pool, p, e, publisher);
     match index {
         PublisherIndex::InvalidPublisher => PaymentAnswer::Refused(INVALID_PUBLISHER),
         PublisherIndex::PublisherNotFound => PaymentAnswer::Refused(PUBLISHER_NOT_FOUND),
-        PublisherIndex::Index(s) => payment_at(pool, p, e, s, words, claim),
+        PublisherIndex::Index(s) => payment_at(pool, p, e, s, gathered, claim),
+    }
+}
+
+// The amounts that an account's positions have gathered are paid what they have earned. It is the same whether the positions came as words
+// or as records.
+pub fn pay_gathered(
+    pool: &mut [u64],
+    p: usize,
+    e: usize,
+    gathered: EventAmounts,
+    claim: Claim,
+) -> PaymentAnswer
+    requires { ⌜ Sized (now pool) p e ⌝ }
+    ensures { λ r. ⌜ (paymentIs r ≡ gatheredPayment p e (read p e (now (pool .entry))) gathered claim) × (now (pool .exit) ≡ paidImage p e (now (pool .entry)) (gatheredPayment p e (read p e (now (pool .entry))) gathered claim)) ⌝ }
+{
+    let answer = payment_of(&pool[..], p, e, gathered, claim);
+    match answer {
+        PaymentAnswer::Refused(k) => PaymentAnswer::Refused(k),
+        PaymentAnswer::Paid {
+            delegator_reward,
+            publisher_reward,
+            custody_fall,
+            delegation_record,
+            reads,
+        } => {
+            pool[1] = pool[1] - (delegator_reward.0 + publisher_reward.0);
+            PaymentAnswer::Paid {
+                delegator_reward,
+                publisher_reward,
+                custody_fall,
+                delegation_record,
+                reads,
+            }
+        }
     }
 }
 
@@ -209,24 +237,17 @@ pub fn advance_delegation_record(
     if !whole {
         return PaymentAnswer::Refused(INVALID_POSITIONS);
     }
-    let answer = payment_of(&pool[..], p, e, words, claim);
-    match answer {
-        PaymentAnswer::Refused(k) => PaymentAnswer::Refused(k),
-        PaymentAnswer::Paid {
-            delegator_reward,
-            publisher_reward,
-            custody_fall,
-            delegation_record,
-            reads,
-        } => {
-            pool[1] = pool[1] - (delegator_reward.0 + publisher_reward.0);
-            PaymentAnswer::Paid {
-                delegator_reward,
-                publisher_reward,
-                custody_fall,
-                delegation_record,
-                reads,
-            }
-        }
-    }
+    let publisher = claim.publisher;
+    let found = claim.delegation_record;
+    let from = found.last_epoch.0;
+    let gathered = gather(
+        &pool[..],
+        p,
+        e,
+        words,
+        publisher,
+        from,
+        claim.unlocking_duration,
+    );
+    pay_gathered(pool, p, e, gathered, claim)
 }

@@ -1,4 +1,4 @@
--- What is earned, and so what a payment pays: the parts add up to the totals of the slots, and together they fit a word. Assumes nothing.
+-- What is earned, and so what a payment pays: the parts add up to the totals of the slots, and those of gathered amounts fit a word together. Assumes nothing.
 use mathlib.Core.Path.{_≡_, refl, ap, _∙_}
 use mathlib.Core.Bool.{Bool, true, false, not}
 use mathlib.Core.List.{List}
@@ -13,8 +13,9 @@ use Rattle.positions.specs.declared.Key.{Key}
 use Rattle.event.specs.Event.{Parts, rateOf, totalOf}
 use Rattle.event.proofs.EventLaws.{event-adds}
 use Rattle.image.specs.Layout.{self, other, eventY, rewardRatio, slot, share, Words}
+use Rattle.event_walk.specs.declared.EventAmounts.{EventAmounts}
 use Rattle.event_walk.specs.Walk.{walkLength, walkSlot, slotAmount, gatherFits, readsOf}
-use Rattle.pool.specs.Reward.{eventOf, slotReward, delegatorIn, publisherIn, rewardSum, Earned, earnedWith, calculateReward}
+use Rattle.pool.specs.Reward.{eventOf, slotReward, delegatorIn, publisherIn, rewardSum, Earned, earnedWith, calculateReward, rewardOf}
 
 -- ---- a sum that is accepted
 
@@ -46,6 +47,16 @@ sum-adds f n p e =
 
 -- ---- what is earned
 
+-- of gathered amounts: both parts together fit
+pub reward-fits : (E : ℕ) (w : Words) (s : ℕ) (g : EventAmounts) (selfSide : Bool) (r : Earned) → rewardOf E w s g selfSide ≡ accepted r
+    → r .delegator + r .publisher < word
+unfolding rewardOf
+reward-fits E w s g selfSide r e =
+    let t = test-passed (not (g .fits)) _ _ r e in
+    let m = map-accepted (earnedWith (g .reads)) _ r (t .1) in
+    let a = sum-adds _ _ (m .0) (m .1 .0) in
+    rw (m .1 .1) (omega (arith, a .delegator, a .publisher, a .fits))
+
 -- each side has its own ratio
 side-ratio : (w : Words) (t s : ℕ) (selfSide : Bool)
     → (if selfSide then w (share t s (rewardRatio self)) else w (share t s (rewardRatio other)))
@@ -62,11 +73,6 @@ module _ (E : ℕ) (w : Words) (s : ℕ) (words : List ℕ) (publisher : Key) (f
       let t = test-passed (not (gatherFits E w words publisher from unlocking)) _ _ r e in
       let m = map-accepted (earnedWith (readsOf E w words publisher from)) _ r (t .1) in
       (m .0, (sum-adds _ _ (m .0) (m .1 .0), m .1 .1))
-
-  pub paid-fits : r .delegator + r .publisher < word
-  paid-fits =
-      let a = adds .1 .0 in
-      rw (adds .1 .1) (omega (arith, a .delegator, a .publisher, a .fits))
 
   -- the parts together are the sum, over the slots of a walk, of the amount there at the event's rate for the side
   pub paid-adds : r .delegator + r .publisher ≡ sumBelow (walkLength E w) (λ (k : ℕ). totalOf (slotAmount E w words publisher from unlocking k)

@@ -18,7 +18,7 @@ use Rattle.image.proofs.SeatLaws.{read-at}
 use Rattle.event_walk.specs.Walk.{walkLength, walkSlot, slotAmount, readsOf}
 use Rattle.event_walk.specs.declared.EventAmounts.{EventAmounts}
 use Rattle.event_amounts.specs.Gathered.{GatheredOf}
-use Rattle.pool.specs.Reward.{eventOf, slotReward, delegatorIn, publisherIn, rewardSum, earnedWith, calculateReward}
+use Rattle.pool.specs.Reward.{eventOf, slotReward, delegatorIn, publisherIn, rewardSum, earnedWith, calculateReward, rewardOf}
 
 -- ---- an event
 
@@ -122,21 +122,30 @@ reward-sum-same f g n h =
       sum-same (λ k. publisherIn (f k)) (λ k. publisherIn (g k)) n (λ k l. ap publisherIn (h k l)),
     )
 
--- ---- all positions of the account
+-- ---- the gathered amounts
 
-module _ (E : ℕ) (w : Words) (s : ℕ) (words : List ℕ) (publisher : Key) (from unlocking : ℕ) (selfSide : Bool) (g : EventAmounts)
-    (gathered : GatheredOf E w words publisher from unlocking g) where
-  pub calculated-13 : g .fits ≡ false → refused doesNotFit ≡ calculateReward E w s words publisher from unlocking selfSide
-  unfolding calculateReward
-  calculated-13 h = rw (sym (gathered .fits) ∙ h)
+module _ (E : ℕ) (w : Words) (s : ℕ) (selfSide : Bool) (g : EventAmounts) where
+  pub reward-13 : g .fits ≡ false → refused doesNotFit ≡ rewardOf E w s g selfSide
+  unfolding rewardOf
+  reward-13 h = rw h
 
-  pub calculated-sum : g .fits ≡ true → (o : Outcome Parts)
+  pub reward-sums : g .fits ≡ true → (o : Outcome Parts)
       → o ≡ rewardSum (walkLength E w) (slotReward E w s selfSide (λ (k : ℕ). getD (g .amounts) k 0))
-      → mapOutcome (earnedWith (g .reads)) o ≡ calculateReward E w s words publisher from unlocking selfSide
-  unfolding calculateReward slotReward
-  calculated-sum h o q =
-      let same = reward-sum-same
-      (slotReward E w s selfSide (λ (k : ℕ). getD (g .amounts) k 0)) (slotReward E w s selfSide (slotAmount E w words publisher from unlocking))
-      (walkLength E w)
-      (λ k l. ap (λ (a : ℕ). eventReward (eventOf w (walkSlot E w k) s) a selfSide) (gathered .amounts h k)) in
-      rw (sym (gathered .fits) ∙ h, gathered .reads h) (ap (mapOutcome (earnedWith (readsOf E w words publisher from))) (q ∙ same))
+      → mapOutcome (earnedWith (g .reads)) o ≡ rewardOf E w s g selfSide
+  unfolding rewardOf
+  reward-sums h o q = rw h (ap (mapOutcome (earnedWith (g .reads))) q)
+
+  -- amounts that an account's positions gather earn what the positions do
+  pub reward-gathered : (words : List ℕ) (publisher : Key) (from unlocking : ℕ) → GatheredOf E w words publisher from unlocking g
+      → rewardOf E w s g selfSide ≡ calculateReward E w s words publisher from unlocking selfSide
+  unfolding rewardOf calculateReward slotReward
+  reward-gathered words publisher from unlocking gathered = go (g .fits) refl
+    where
+      go : (t : Bool) → g .fits ≡ t → rewardOf E w s g selfSide ≡ calculateReward E w s words publisher from unlocking selfSide
+      go false h = rw (h, sym (gathered .fits) ∙ h)
+      go true h =
+          let same = reward-sum-same
+          (slotReward E w s selfSide (λ (k : ℕ). getD (g .amounts) k 0)) (slotReward E w s selfSide (slotAmount E w words publisher from unlocking))
+          (walkLength E w)
+          (λ k l. ap (λ (a : ℕ). eventReward (eventOf w (walkSlot E w k) s) a selfSide) (gathered .amounts h k)) in
+          rw (h, sym (gathered .fits) ∙ h, gathered .reads h) (ap (mapOutcome (earnedWith (readsOf E w words publisher from))) same)

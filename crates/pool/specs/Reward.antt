@@ -3,12 +3,14 @@ use mathlib.Core.Bool.{Bool, not}
 use mathlib.Core.List.{List}
 use Prim.Native.Nat.{ℕ, _+_}
 use lib.Dec.{leb}
+use lib.ListN.{getD}
 use Rattle.types.specs.Base.{word, if_then_else_, Outcome, refused, accepted, mapOutcome, isAccepted, sumBelow, allBelow}
 use Rattle.types.specs.Refusals.{doesNotFit}
 use Rattle.positions.specs.declared.Key.{Key}
 use Rattle.event.specs.declared.event.Event.{Event}
 use Rattle.event.specs.Event.{Parts, eventReward}
 use Rattle.image.specs.Layout.{self, other, eventY, rewardRatio, eventFee, slot, share, Words}
+use Rattle.event_walk.specs.declared.EventAmounts.{EventAmounts}
 use Rattle.event_walk.specs.Walk.{walkLength, walkSlot, slotAmount, gatherFits, readsOf}
 use Rattle.pool.specs.declared.reward.Calculated.{Calculated}
 use Rattle.pool.specs.declared.reward.Calculated.the-variants as calculated
@@ -59,6 +61,12 @@ calculateReward E w s words publisher from unlocking selfSide =
     if not (gatherFits E w words publisher from unlocking) then refused doesNotFit
     else mapOutcome (earnedWith (readsOf E w words publisher from))
     (rewardSum (walkLength E w) (slotReward E w s selfSide (slotAmount E w words publisher from unlocking)))
+
+-- the same, of amounts that have been gathered
+unfoldable pub rewardOf : (E : ℕ) → Words → (s : ℕ) → EventAmounts → (selfSide : Bool) → Outcome Earned
+rewardOf E w s g selfSide =
+    if not (g .fits) then refused doesNotFit
+    else mapOutcome (earnedWith (g .reads)) (rewardSum (walkLength E w) (slotReward E w s selfSide (λ k. getD (g .amounts) k 0)))
 
 abbrev pub earnedIs : Rewards → Earned
 earnedIs r = record { delegator = r .«delegator_reward» .0; publisher = r .«publisher_reward» .0; reads = r .reads }

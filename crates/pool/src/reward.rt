@@ -1,19 +1,18 @@
 // Items 7 and 8: what the positions of an account have earned with one publisher, on an image and a list that have been checked.
 ghost use mathlib.Core.Path.{_≡_};
-ghost use Prim.Native.Nat.{_/_, _≤_, _<_};
-ghost use lib.ListN.{length, getD};
+ghost use Prim.Native.Nat.{_<_};
+ghost use lib.ListN.{getD};
 ghost use Rattle.event.specs.Event.{eventReward, rewardIs};
 ghost use Rattle.image.specs.Layout.{read};
 ghost use Rattle.image.specs.Seats.{Sized};
 ghost use Rattle.event_walk.specs.Walk.{walkLength};
-ghost use Rattle.pool.specs.Reward.{eventOf, slotReward, rewardSum, calculateReward, calculatedIs};
+ghost use Rattle.pool.specs.Reward.{eventOf, slotReward, rewardSum, rewardOf, calculatedIs};
 use event::event::Event;
 use event::event::PublisherEventData;
 use event::event::Reward;
-use event_amounts::gather;
+use event_walk::EventAmounts;
 use event_walk::newest::slot_before;
 use event_walk::newest::walk_length;
-use positions::Key;
 use types::Amount;
 use types::Ratio;
 
@@ -108,22 +107,18 @@ fn reward_sum(pool: &[u64], p: usize, e: usize, s: usize, amounts: [u64; 52], ow
     }
 }
 
-// What the positions with the publisher at seat s have earned since the record's epoch.
+// What the gathered amounts have earned with the publisher at seat s.
 pub fn calculate_reward(
     pool: &[u64],
     p: usize,
     e: usize,
     s: usize,
-    words: &[u64],
-    publisher: Key,
-    from_epoch: u64,
-    unlocking_duration: u64,
+    gathered: EventAmounts,
     is_publisher: bool,
 ) -> Calculated
-    requires { ⌜ Sized (now pool) p e × (s < p) × (length (now words) / 9 ≤ 256) ⌝ }
-    ensures { λ r. ⌜ calculatedIs r ≡ calculateReward e (read p e (now (pool .entry))) s (now (words .entry)) publisher «from_epoch» «unlocking_duration» «is_publisher» ⌝ }
+    requires { ⌜ Sized (now pool) p e × (s < p) ⌝ }
+    ensures { λ r. ⌜ calculatedIs r ≡ rewardOf e (read p e (now (pool .entry))) s gathered «is_publisher» ⌝ }
 {
-    let gathered = gather(pool, p, e, words, publisher, from_epoch, unlocking_duration);
     if !gathered.fits {
         return Calculated::DoesNotFit;
     }

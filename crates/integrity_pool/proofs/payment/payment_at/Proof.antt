@@ -2,7 +2,7 @@
 use mathlib.Core.Path.{refl, sym, ap, _∙_}
 use native.Mathlib.Omega.{arith}
 use borrow.Author.Needs.{needs}
-use Rattle.pool.proofs.PaidLaws.{paid-fits}
+use Rattle.pool.proofs.PaidLaws.{reward-fits}
 use Rattle.image.specs.Layout.{lastUpdatedEpoch, claimableRewards, head}
 use Rattle.image.proofs.SeatLaws.{read-at}
 use Rattle.pool.specs.Reward.{calculatedIs}
@@ -36,21 +36,21 @@ shared-slice-read-pay c = search needs
 
 pay-requires : tie.Need-pay-requires
 pay-requires c κs =
-    paid-fits _ _ _ _ _ _ _ _ _
+    reward-fits _ _ _ _ _ _
     (sym (c .before .before .before .before .calculate-reward .ensures) ∙ ap calculatedIs (c .before .before .calculated .given .1))
 
 returns-2 : tie.Need-returns-2
 returns-2 c =
     at-13 _ _ _ _ _ _ (read-at _ _ _ (head lastUpdatedEpoch) 0 refl) (omega arith) _
-    (c .before .before .before .before .before .before .before .publisher-stake-account .ensures) _
-    (c .before .before .before .before .before .same-key .ensures) _ (c .before .before .calculate-reward .ensures)
+    (c .before .before .before .before .before .publisher-stake-account .ensures) _
+    (c .before .before .before .same-key .ensures) _ (c .before .before .calculate-reward .ensures)
     (ap calculatedIs (c .enum-told .given .1))
 
 returns-3 : tie.Need-returns-3
 returns-3 c =
     at-pays _ _ _ _ _ _ (read-at _ _ _ (head lastUpdatedEpoch) 0 refl) (omega arith) _
-    (c .before .before .before .before .before .before .before .before .before .before .publisher-stake-account .ensures) _
-    (c .before .before .before .before .before .before .before .before .same-key .ensures) _
+    (c .before .before .before .before .before .before .before .before .publisher-stake-account .ensures) _
+    (c .before .before .before .before .before .before .same-key .ensures) _
     (c .before .before .before .before .before .calculate-reward .ensures) _ _ _ (ap calculatedIs (c .before .before .before .calculated .given .1))
     (read-at _ _ _ (head claimableRewards) 1 refl) (c .pay .ensures)
 

@@ -22,7 +22,7 @@ enum-known-index c = search needs
 payment-at-requires : tie.Need-payment-at-requires
 payment-at-requires c κs =
     let found = sym (c .before .before .before .get-publisher-index .ensures) ∙ ap publisherIndexIs (c .before .index .given .1) in
-    (c .before .before .before .before .before .before .before .pre .0, index-lt _ _ _ _ found, c .before .before .before .before .before .before .before .pre .1)
+    (c .before .before .before .before .before .before .pre, index-lt _ _ _ _ found)
 
 returns : tie.Need-returns
 returns c = of-refused _ _ _ _ _ _ (ap publisherIndexIs (sym (c .enum-told .given .1)) ∙ c .before .before .get-publisher-index .ensures)

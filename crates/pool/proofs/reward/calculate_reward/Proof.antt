@@ -2,16 +2,13 @@
 use mathlib.Core.Path.{sym, ap, _∙_}
 use borrow.Author.Tests.{not-true, not-false}
 use borrow.Author.Needs.{needs}
-use Rattle.pool.proofs.RewardLaws.{calculated-13, calculated-sum}
+use Rattle.pool.proofs.RewardLaws.{reward-13, reward-sums}
 use Rattle.event.specs.Event.{rewardIs}
 use Rattle.pool.proofs.reward.calculate_reward.Statement.{statement}
 use Rattle.pool.proofs.reward.calculate_reward.Tie as tie
 
-gather-requires : tie.Need-gather-requires
-gather-requires c κs = search needs
-
 returns : tie.Need-returns
-returns c = calculated-13 _ _ _ _ _ _ _ _ _ (c .before .before .gather .ensures) (not-true _ (c .if1 .taken))
+returns c = reward-13 _ _ _ _ _ (not-true _ (c .if1 .taken))
 
 reward-sum-requires : tie.Need-reward-sum-requires
 reward-sum-requires c κs = search needs
@@ -24,21 +21,18 @@ enum-known-sum c = search needs
 
 returns-2 : tie.Need-returns-2
 returns-2 c =
-    calculated-sum _ _ _ _ _ _ _ _ _ (c .before .before .before .before .before .before .gather .ensures)
-    (not-false _ (c .before .before .before .before .if1 .left)) _
+    reward-sums _ _ _ _ _ (not-false _ (c .before .before .before .before .if1 .left)) _
     (ap rewardIs (sym (c .enum-told .given .1)) ∙ c .before .before .reward-sum .ensures)
 
 returns-3 : tie.Need-returns-3
 returns-3 c =
-    calculated-sum _ _ _ _ _ _ _ _ _ (c .before .before .before .before .before .before .before .gather .ensures)
-    (not-false _ (c .before .before .before .before .before .if1 .left)) _
+    reward-sums _ _ _ _ _ (not-false _ (c .before .before .before .before .before .if1 .left)) _
     (ap rewardIs (sym (c .before .sum .given .1)) ∙ c .before .before .before .reward-sum .ensures)
 
 pub calculate-reward-spec : {M : Type 1} → statement M
 calculate-reward-spec =
     tie.close
     (tie.spec
-    gather-requires
     returns
     reward-sum-requires
     enum-told
