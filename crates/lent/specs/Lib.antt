@@ -1,0 +1,4 @@
+pub mod Records
+pub mod Listed
+pub mod Payment
+pub mod Slash
