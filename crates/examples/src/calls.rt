@@ -1,4 +1,6 @@
-// The public calls, each with the line for its answer. The image is compared with its copy from before the call.
+// The public calls, each with the line for its answer. The image is compared with its copy from before the call. A payment and a slash are
+// followed by their lent forms.
+use crate::forms;
 use crate::given::E;
 use crate::tell;
 use advance_plan::Given;
@@ -79,6 +81,7 @@ pub fn payment(row: &[u8], p: usize, before: [u64; 91], positions: &[u64], claim
         PaymentAnswer::Refused(k) => k,
     };
     tell::refusal(row, b"payment", refusal, &before, &pool);
+    forms::payment(row, p, before, positions, claim);
 }
 
 fn change_refusal(answer: ChangeAnswer) -> u64 {
@@ -130,6 +133,7 @@ pub fn slash(row: &[u8], p: usize, before: [u64; 91], slashing: Slashing) {
         SlashAnswer::Refused(k) => k,
     };
     tell::refusal(row, b"slash", refusal, &before, &pool);
+    forms::slash(row, p, before, slashing);
 }
 
 pub fn account(

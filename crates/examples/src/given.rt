@@ -1,4 +1,5 @@
 // What the calls are given: images, keys, positions, messages.
+ghost use Prim.Native.Nat.{_+_, _≤_};
 use advance_plan::Given;
 use integrity_pool::payment::Claim;
 use integrity_pool::payment::DelegationRecord;
@@ -20,7 +21,7 @@ pub const OTHER_SIDE: usize = 10;
 
 pub const SELF_SIDE: usize = 14;
 
-const STAKE_ACCOUNT: usize = 18;
+pub const STAKE_ACCOUNT: usize = 18;
 
 const EVENT: usize = 26;
 
@@ -81,6 +82,30 @@ pub fn earning() -> [u64; 91] {
     pool
 }
 
+// An event whose y is 10,000 and whose self ratio is 1,000,000.
+fn with_event(before: [u64; 91], at: usize, epoch: u64, ratio: u64, fee: u64) -> [u64; 91]
+    requires { ⌜ at + 12 ≤ 91 ⌝ }
+{
+    let mut pool = before;
+    pool[at] = epoch;
+    pool[at + 1] = 10_000;
+    pool[at + 9] = 1_000_000;
+    pool[at + 10] = ratio;
+    pool[at + 11] = fee;
+    pool
+}
+
+// 1,000,000 is claimable. Epochs 8, 7 and 6 have events, the newest in the first slot and the others around the ring; that of epoch 5 has no y.
+pub fn paying() -> [u64; 91] {
+    let mut pool = seated();
+    pool[1] = 1_000_000;
+    pool[EVENT + 15] = 5;
+    pool[NUM_EVENTS] = 5;
+    pool = with_event(pool, EVENT, 8, 500_000, 200_000);
+    pool = with_event(pool, EVENT + 45, 7, 250_000, 100_000);
+    with_event(pool, EVENT + 30, 6, 1_000_000, 200_000)
+}
+
 // One position in the publisher, without a start.
 pub fn position(kind: u64, amount: u64) -> [u64; 9] {
     [kind, amount, 0, 0, 0, PUBLISHER.0, 0, 0, 0]
@@ -126,6 +151,21 @@ pub fn claim(publisher: Key, account: OptionKey, flag: u64, now: u64) -> Claim {
         publisher_stake_account_positions: account,
         publisher_stake_account_custody: flag,
         current_epoch: now,
+        unlocking_duration: 1,
+    }
+}
+
+// A payment in epoch 9 to an account whose record is at this epoch, with an account for the publisher's part.
+pub fn claim_since(epoch: u64, own: Key, account: OptionKey) -> Claim {
+    let found = record_at(epoch, 3);
+    let publisher = PUBLISHER;
+    Claim {
+        delegation_record: found,
+        publisher,
+        stake_account_positions: own,
+        publisher_stake_account_positions: account,
+        publisher_stake_account_custody: 1,
+        current_epoch: 9,
         unlocking_duration: 1,
     }
 }

@@ -1,7 +1,10 @@
-// Runs document 01's examples that are not marked P, and every row of its table 'Turned back', through the public calls at P 2 and E 4. A line
-// holds what a call answered and wrote; the file stdout holds what the document says.
+// Runs document 01's examples that are not marked P, and every row of its table 'Turned back', through the public calls at P 2 and E 4, payments
+// and slashes in their lent forms too; then such payments over further lists. A line holds what a call answered and wrote; the file stdout holds
+// what the document says.
 mod calls;
+mod forms;
 mod given;
+mod lists;
 mod rows;
 mod tell;
 
@@ -17,14 +20,19 @@ use given::seated;
 use given::slashing;
 use given::staked;
 use integrity_pool::slash::SlashAnswer;
+use integrity_pool::slash::Slashing;
 use integrity_pool::slash::slash;
 use positions::Key;
 
-// What a slash of this account leaves.
+// The example's slash, of this account.
+fn slashing_of(account: Key) -> Slashing {
+    slashing(delegation(PUBLISHER, account, 9), 9, 0, 0, 9)
+}
+
+// What it leaves.
 fn slashed(account: Key) -> [u64; 91] {
     let mut pool = staked(10, u64::MAX - 2);
-    let whose = delegation(PUBLISHER, account, 9);
-    slash(&mut pool, P, E, slashing(whose, 9, 0, 0, 9));
+    slash(&mut pool, P, E, slashing_of(account));
     pool
 }
 
@@ -33,6 +41,7 @@ fn slash_sides() {
     let example: &[u8] = b"slash 4 locked, 2 preunlocking on total 10, change -3";
     let other = slashed(ACCOUNT);
     tell::side(example, b"", other[OTHER_SIDE], other[OTHER_SIDE + 1]);
+    forms::slash(example, P, staked(10, u64::MAX - 2), slashing_of(ACCOUNT));
     let own = slashed(ZERO);
     tell::side(example, b", self side", own[SELF_SIDE], own[SELF_SIDE + 1]);
 }
@@ -54,6 +63,7 @@ fn next_index(example: &[u8], now: u64) {
         }
     }
     tell::image(&before, &pool);
+    forms::slash(example, P, before, slashing);
 }
 
 fn main() {
@@ -69,4 +79,10 @@ fn main() {
     rows::stakes();
     rows::slashes();
     rows::stake_accounts();
+    lists::short();
+    lists::long();
+    lists::kinds();
+    lists::refused();
+    lists::accounts();
+    lists::epochs();
 }

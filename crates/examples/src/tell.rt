@@ -2,8 +2,8 @@
 ghost use mathlib.Core.Path.{_≡_};
 ghost use mathlib.Core.Bool.{true};
 
-// Whether two images have the same words.
-fn same(a: &[u64], b: &[u64]) -> bool
+// Whether two lists, such as two images, have the same words.
+pub fn same(a: &[u64], b: &[u64]) -> bool
     ensures { λ r. ⌜ (r ≡ true → now (a .entry) ≡ now (b .entry)) × (now (a .entry) ≡ now (b .entry) → r ≡ true) ⌝ }
 {
     if a.len() != b.len() {
@@ -46,14 +46,35 @@ pub fn image(before: &[u64], after: &[u64]) {
     }
 }
 
-// A line for a call: the example, the call's name, its refusal's number or 0, and the image.
-pub fn refusal(example: &[u8], call: &[u8], answer: u64, before: &[u64], after: &[u64]) {
+// The example, the call's name, and its refusal's number or 0.
+pub fn call(example: &[u8], name: &[u8], answer: u64) {
     text(example);
     text(b": ");
-    text(call);
+    text(name);
     text(b" ");
     number(answer);
+}
+
+// A line for a call, with the image.
+pub fn refusal(example: &[u8], name: &[u8], answer: u64, before: &[u64], after: &[u64]) {
+    call(example, name, answer);
     image(before, after);
+}
+
+// Whether a form of a call left the same as the core's call.
+pub fn agreement(agrees: bool, core: &[u8]) {
+    if agrees {
+        text(b", as ");
+    } else {
+        text(b", NOT as ");
+    }
+    text(core);
+}
+
+// One of an answer's values.
+pub fn value(name: &[u8], n: u64) {
+    text(name);
+    number(n);
 }
 
 // A line for one side of a seat: the example, which side, and its two words.
