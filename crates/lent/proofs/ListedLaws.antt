@@ -1,9 +1,10 @@
 -- Laws of what a list of records comes to: its start, its end, and one law for each way out of a record's walk and turn. Assumes nothing.
-use mathlib.Core.Path.{_≡_, refl, sym, _∙_}
+use mathlib.Core.Path.{_≡_, refl, sym, subst, _∙_}
+use mathlib.Core.Logic.{_⊎_, inl, inr}
 use mathlib.Core.Bool.{Bool, true, false, _&&_}
 use mathlib.Core.List.{List}
-use Prim.Native.Nat.{ℕ, _+_, _*_, _/_, _%_, _<_, _≤_}
-use native.Mathlib.Nat.{add-zero}
+use Prim.Native.Nat.{ℕ, _+_, _*_, _/_, _%_, _<_, _≤_, min}
+use native.Mathlib.Nat.{add-zero, min-eq-left, min-eq-right}
 use native.Mathlib.Numerals.{add-one}
 use native.Mathlib.Omega.{arith}
 use lib.Dec.{leb, ltb}
@@ -15,6 +16,7 @@ use Rattle.positions.specs.declared.Key.{Key}
 use Rattle.positions.specs.declared.position.Position.{Position}
 use Rattle.positions.specs.Positions.{positionFrom, positionHolds, positionsHold, inPublisher}
 use Rattle.image.specs.Layout.{Words}
+use Rattle.image.proofs.ListLaws.{lt-or-le}
 use Rattle.event_walk.specs.declared.EventAmounts.{EventAmounts}
 use Rattle.event_walk.specs.declared.span.Span.{Span}
 use Rattle.event_walk.specs.declared.span.Reach.{Reach}
@@ -192,10 +194,11 @@ module _ (x : Walks) (i : ℕ) (p : Position) (before : Listed) where
 
 -- ---- the end
 
-pub listing-end : (x : Walks) (words : List ℕ) (r : Listed) → length words % 9 ≡ 0 → (i : ℕ) → i ≡ length words / 9 → Listing x words i r
+-- all of the list has been looked at
+listed-whole : (x : Walks) (words : List ℕ) (r : Listed) → length words % 9 ≡ 0 → (i : ℕ) → i ≡ length words / 9 → Listing x words i r
     → ListedOf x words r
 unfolding positionsHold
-listing-end x words r whole i q h = record {
+listed-whole x words r whole i q h = record {
   holds = h .holds ∙ rw (eq-eqb (length words % 9) 0 whole, q);
   gathered = λ t E w from newest. go t E w from newest (r .gathered .fits) refl;
 }
@@ -209,3 +212,19 @@ listing-end x words r whole i q h = record {
       amounts = λ g k. absurd (not-both (r .gathered .fits) f g);
       reads = λ g. absurd (not-both (r .gathered .fits) f g);
     }
+
+-- the list is longer than what is looked at: then it is too long
+listed-long : (x : Walks) (words : List ℕ) (r : Listed) → length words % 9 ≡ 0 → 257 < length words / 9 → Listing x words 257 r → ListedOf x words r
+unfolding positionsHold
+listed-long x words r whole long h = record {
+  holds = h .holds ∙ rw (eq-eqb (length words % 9) 0 whole, lt-leb (length words / 9) 256 (omega arith));
+  gathered = λ t. absurd (not-both (r .holds) (h .holds) t);
+}
+
+pub listing-end : (x : Walks) (words : List ℕ) (r : Listed) → length words % 9 ≡ 0 → (i : ℕ) → i ≡ min (length words / 9) 257 → Listing x words i r
+    → ListedOf x words r
+listing-end x words r whole i q h = go (lt-or-le 257 (length words / 9))
+  where
+    go : (257 < length words / 9) ⊎ (length words / 9 ≤ 257) → ListedOf x words r
+    go (inl l) = listed-long x words r whole l (subst (λ (k : ℕ). Listing x words k r) (q ∙ min-eq-right (omega arith)) h)
+    go (inr l) = listed-whole x words r whole i (q ∙ min-eq-left l) h

@@ -1,7 +1,7 @@
 // Item 8 over position records: what refusal 4 asks of a list and what its walks gather, in one pass.
 ghost use mathlib.Core.Path.{_≡_};
 ghost use mathlib.Core.Bool.{true};
-ghost use Prim.Native.Nat.{_+_, _*_, _≤_, _<_};
+ghost use Prim.Native.Nat.{_+_, _*_, _≤_, _<_, min};
 ghost use Rattle.types.specs.Base.{word};
 ghost use Rattle.lent.specs.Records.{wordsOf, recordHolds, recordIn};
 ghost use Rattle.lent.specs.Listed.{noneListed, RecordWalked, SteppedOf, ListedOf};
@@ -122,14 +122,26 @@ fn gather_record(walks: Walks, index: usize, position: Position, so_far: Listed)
     }
 }
 
-// The walks of all records with the publisher, in their order. Each record is handed by value to the walk that the words' core has.
+// How many records are looked at: one more than an account may have, so that too many are seen.
+fn looked_at(count: usize) -> usize
+    ensures { λ r. ⌜ r ≡ min count 257 ⌝ }
+{
+    if count < 257 {
+        return count;
+    }
+    257
+}
+
+// The walks of all records with the publisher, in their order. Each record is handed by value to the walk that the words' core has. A list that
+// is too long costs no more than one that is just too long.
 pub fn gather_positions(positions: &[Position], walks: Walks) -> Listed
     requires { ⌜ (walks .newest .meets ≤ 52) × (walks .newest .reads ≤ 52) ⌝ }
     ensures { λ r. ⌜ ListedOf walks (wordsOf (now (positions .entry))) r ⌝ }
 {
+    let count = looked_at(positions.len());
     let mut listed = none_listed();
     let mut i: usize = 0;
-    while i < positions.len() {
+    while i < count {
         listed = gather_record(walks, i, positions[i], listed);
         i += 1;
     }
