@@ -27,7 +27,7 @@ use Rattle.pool.proofs.RewardLaws.{reward-gathered}
 use Rattle.integrity_pool.specs.declared.payment.Claim.{Claim}
 use Rattle.integrity_pool.specs.declared.payment.DelegationRecord.{DelegationRecord}
 use Rattle.image.specs.Changes.{selfSide}
-use Rattle.integrity_pool.specs.Payment.{recordAt, custodyFall, Payment, paymentWith, payOut, paymentAt, paymentOf, gatheredPaymentAt, gatheredPayment, paidWords, paidImage, paymentCall, paymentImage}
+use Rattle.integrity_pool.specs.Payment.{recordAt, custodyFall, Payment, paymentWith, payOut, paymentAt, paymentOf, gatheredPaymentAt, gatheredPayment, gatheredCall, paidWords, paidImage, paymentCall, paymentImage}
 
 -- ---- the publisher account: 17, 18, by how much custody falls
 
@@ -194,6 +194,24 @@ module _ (P E : ℕ) (img : List ℕ) (g : EventAmounts) (c : Claim) (o : Outcom
       let m = read-at P E img (head claimableRewards) 1 refl in
       (t, rw m (paid-image P E img (a .delegator + a .publisher) long) ∙ ap (paidImage P E img) t)
 
+-- ---- 1
+
+module _ (P E : ℕ) (img : List ℕ) (g : EventAmounts) (c : Claim) where
+  pub gathered-1 : checkedImage P E img ≡ false
+      → (refused invalidImage ≡ gatheredCall P E img g c) × (img ≡ paidImage P E img (gatheredCall P E img g c))
+  unfolding gatheredCall
+  gathered-1 h = let t : refused invalidImage ≡ gatheredCall P E img g c = rw h in (t, ap (paidImage P E img) t)
+
+  -- an image that is not refused
+  pub gathered-on : checkedImage P E img ≡ true → gatheredPayment P E (read P E img) g c ≡ gatheredCall P E img g c
+  unfolding gatheredCall
+  gathered-on h = rw h
+
+  pub gathered-takes : checkedImage P E img ≡ true → (o : Outcome Payment) (l : List ℕ) → o ≡ gatheredPayment P E (read P E img) g c
+      → l ≡ paidImage P E img (gatheredPayment P E (read P E img) g c)
+      → (o ≡ gatheredCall P E img g c) × (l ≡ paidImage P E img (gatheredCall P E img g c))
+  gathered-takes h o l q r = let t = gathered-on h in (q ∙ t, r ∙ ap (paidImage P E img) t)
+
 -- ---- the call: 1, 4
 
 module _ (P E : ℕ) (img words : List ℕ) (c : Claim) where
@@ -213,10 +231,10 @@ module _ (P E : ℕ) (img words : List ℕ) (c : Claim) where
     -- what the positions gathered is paid
     pub call-pays : positionsHold words ≡ true → (g : EventAmounts)
         → GatheredOf E (read P E img) words (c .publisher) (c .«delegation_record» .«last_epoch» .0) (c .«unlocking_duration») g
-        → (o : Outcome Payment) (l : List ℕ) → o ≡ gatheredPayment P E (read P E img) g c
-        → l ≡ paidImage P E img (gatheredPayment P E (read P E img) g c)
+        → (o : Outcome Payment) (l : List ℕ) → o ≡ gatheredCall P E img g c → l ≡ paidImage P E img (gatheredCall P E img g c)
         → (o ≡ paymentCall P E img words c) × (l ≡ paymentImage P E img words c)
     unfolding paymentCall paymentImage
     call-pays k g gathered o l q r =
-        let t : gatheredPayment P E (read P E img) g c ≡ paymentCall P E img words c = gathered-pays P E (read P E img) g c words gathered ∙ rw (h, k) in
+        let t : gatheredCall P E img g c ≡ paymentCall P E img words c =
+        sym (gathered-on P E img g c h) ∙ gathered-pays P E (read P E img) g c words gathered ∙ rw (h, k) in
         (q ∙ t, r ∙ ap (paidImage P E img) t)

@@ -113,6 +113,10 @@ paymentCall P E img words c =
     else if not (positionsHold words) then refused invalidPositions
     else paymentOf P E (read P E img) words c
 
+-- from the gathered amounts on, 1 alone
+unfoldable pub gatheredCall : (P E : ℕ) → List ℕ → EventAmounts → Claim → Outcome Payment
+gatheredCall P E img g c = if not (checkedImage P E img) then refused invalidImage else gatheredPayment P E (read P E img) g c
+
 unfoldable pub paymentImage : (P E : ℕ) → List ℕ → List ℕ → Claim → List ℕ
 paymentImage P E img words c = paidImage P E img (paymentCall P E img words c)
 

@@ -5,7 +5,7 @@ ghost use Rattle.types.specs.Base.{word};
 ghost use Rattle.image.specs.Layout.{read};
 ghost use Rattle.image.specs.Seats.{Sized};
 ghost use Rattle.pool.specs.Reward.{earnedIs};
-ghost use Rattle.integrity_pool.specs.Payment.{recordAt, fallIs, custodyFall, payOut, gatheredPaymentAt, gatheredPayment, paidImage, paymentIs, paymentCall, paymentImage};
+ghost use Rattle.integrity_pool.specs.Payment.{recordAt, fallIs, custodyFall, payOut, gatheredPaymentAt, gatheredPayment, gatheredCall, paidImage, paymentIs, paymentCall, paymentImage};
 use event_amounts::gather;
 use event_walk::EventAmounts;
 use image::seats::PublisherIndex;
@@ -185,9 +185,8 @@ fn payment_of(
     }
 }
 
-// The amounts that an account's positions have gathered are paid what they have earned. It is the same whether the positions came as words
-// or as records.
-pub fn pay_gathered(
+// What is paid leaves claimable. A refused payment writes nothing.
+fn take_paid(
     pool: &mut [u64],
     p: usize,
     e: usize,
@@ -217,6 +216,24 @@ pub fn pay_gathered(
             }
         }
     }
+}
+
+// The amounts that an account's positions have gathered are paid what they have earned. It is the same whether the positions came as words
+// or as records.
+pub fn pay_gathered(
+    pool: &mut [u64],
+    p: usize,
+    e: usize,
+    gathered: EventAmounts,
+    claim: Claim,
+) -> PaymentAnswer
+    ensures { λ r. ⌜ (paymentIs r ≡ gatheredCall p e (now (pool .entry)) gathered claim) × (now (pool .exit) ≡ paidImage p e (now (pool .entry)) (gatheredCall p e (now (pool .entry)) gathered claim)) ⌝ }
+{
+    let right = image::checked(&pool[..], p, e);
+    if !right {
+        return PaymentAnswer::Refused(INVALID_IMAGE);
+    }
+    take_paid(pool, p, e, gathered, claim)
 }
 
 // The positions of an account are paid what they have earned with one publisher, and the record moves to the current epoch.

@@ -14,8 +14,8 @@ use Rattle.event_walk.specs.Walked.{NewestOf}
 use Rattle.event_amounts.specs.Gathered.{GatheredOf}
 use Rattle.integrity_pool.specs.declared.payment.DelegationRecord.{DelegationRecord}
 use Rattle.integrity_pool.specs.declared.payment.Claim.{Claim}
-use Rattle.integrity_pool.specs.Payment.{Payment, gatheredPayment, paidImage, paymentCall}
-use Rattle.integrity_pool.proofs.PaymentLaws.{gathered-pays}
+use Rattle.integrity_pool.specs.Payment.{Payment, gatheredCall, paidImage, paymentCall}
+use Rattle.integrity_pool.proofs.PaymentLaws.{gathered-pays, gathered-on}
 use Rattle.lent.specs.declared.payment.LentClaim.{LentClaim}
 use Rattle.lent.specs.declared.gather.Walks.{Walks}
 use Rattle.lent.specs.declared.gather.Listed.{Listed}
@@ -52,14 +52,13 @@ module _ (P E : ℕ) (img : List ℕ) (found : DelegationRecord) (r : Listed) (c
     listed-4 g = refused-keeps invalidPositions (rw (h, g))
 
     pub listed-pays : r .holds ≡ true → (claim : Claim) → claim ≡ c → (o answer : Outcome Payment) (kept : DelegationRecord) (l : List ℕ)
-        → o ≡ gatheredPayment P E (read P E img) (r .gathered) claim
-        → l ≡ paidImage P E img (gatheredPayment P E (read P E img) (r .gathered) claim)
+        → o ≡ gatheredCall P E img (r .gathered) claim → l ≡ paidImage P E img (gatheredCall P E img (r .gathered) claim)
         → answer ≡ o → kept ≡ paymentRecord found o
         → Kept P E img found answer (listedCall P E img r c) kept l
     unfolding listedCall
     listed-pays g claim same o answer kept l q m a k =
-        let t : gatheredPayment P E (read P E img) (r .gathered) claim ≡ listedCall P E img r c =
-        ap (gatheredPayment P E (read P E img) (r .gathered)) same ∙ rw (h, g) in
+        let t : gatheredCall P E img (r .gathered) claim ≡ listedCall P E img r c =
+        ap (gatheredCall P E img (r .gathered)) same ∙ sym (gathered-on P E img (r .gathered) c h) ∙ rw (h, g) in
         (a ∙ q ∙ t, k ∙ ap (paymentRecord found) (q ∙ t), m ∙ ap (paidImage P E img) t)
 
 -- ---- the records' payment is the payment over their words

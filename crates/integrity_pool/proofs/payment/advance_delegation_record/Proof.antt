@@ -42,7 +42,7 @@ gather-requires : tie.Need-gather-requires
 gather-requires c κs = (checked-says _ _ _ (right (c .before .before .before .before .before)) .0, held _ (whole (c .before .before .before)) .few)
 
 pay-gathered-requires : tie.Need-pay-gathered-requires
-pay-gathered-requires c κs = checked-says _ _ _ (right (c .before .before .before .before .before .before .before)) .0
+pay-gathered-requires c κs = search needs
 
 same-length-3 : tie.Need-same-length-3
 same-length-3 c = search needs

@@ -2,7 +2,6 @@
 use mathlib.Core.Path.{sym, _∙_}
 use borrow.Author.Tests.{not-true, not-false}
 use borrow.Author.Needs.{needs}
-use Rattle.image.proofs.SeatLaws.{checked-says}
 use Rattle.lent.proofs.PaymentLaws.{listed-1, listed-4, listed-pays}
 use Rattle.lent.proofs.payment.pay_listed.Statement.{statement}
 use Rattle.lent.proofs.payment.pay_listed.Tie as tie
@@ -27,8 +26,7 @@ claim-of-requires : tie.Need-claim-of-requires
 claim-of-requires c κs = search needs
 
 pay-gathered-requires : tie.Need-pay-gathered-requires
-pay-gathered-requires c κs =
-    checked-says _ _ _ (sym (c .before .before .before .before .before .before .checked .ensures) ∙ not-false _ (c .before .before .before .before .before .if1 .left)) .0
+pay-gathered-requires c κs = search needs
 
 keep-requires : tie.Need-keep-requires
 keep-requires c κs = search needs
