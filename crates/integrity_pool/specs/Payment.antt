@@ -1,5 +1,5 @@
 -- Item 8 of document 01: a payment, its answer with refusals in document 01's order, and the image that it leaves. Assumes nothing.
-use mathlib.Core.Bool.{Bool, not}
+use mathlib.Core.Bool.{not}
 use mathlib.Core.List.{List}
 use Prim.Native.Nat.{ℕ, _+_, _-_}
 use lib.Dec.{ltb, eqb}

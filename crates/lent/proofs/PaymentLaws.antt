@@ -1,12 +1,11 @@
 -- A payment over records, one law for each way out of the code, and that it is the payment over their words. Assumes nothing.
-use mathlib.Core.Path.{_≡_, refl, sym, ap, subst, _∙_}
+use mathlib.Core.Path.{_≡_, refl, sym, ap, _∙_}
 use mathlib.Core.Bool.{Bool, true, false}
 use mathlib.Core.List.{List}
 use Prim.Native.Nat.{ℕ, _≤_}
 use native.Mathlib.Omega.{arith}
 use Rattle.types.specs.Base.{Outcome, refused}
 use Rattle.types.specs.Refusals.{invalidImage, invalidPositions}
-use Rattle.positions.specs.Positions.{positionsHold}
 use Rattle.image.specs.Layout.{read}
 use Rattle.image.specs.Seats.{checkedImage}
 use Rattle.event_walk.specs.declared.newest.Newest.{Newest}

@@ -1,5 +1,5 @@
 -- `examples::forms::same_record` meets its contract: field by field. Assumes nothing.
-use mathlib.Core.Path.{_≡_, ap, ap₂}
+use mathlib.Core.Path.{ap, ap₂}
 use mathlib.Core.Bool.{false≢true}
 use Prim.Native.Nat.{ℕ}
 use borrow.Author.Tests.{eqb-true, eq-eqb}

@@ -1,5 +1,5 @@
 -- `lent::payment::keep` meets its contract. Assumes nothing.
-use mathlib.Core.Path.{refl, sym, ap}
+use mathlib.Core.Path.{sym, ap}
 use borrow.Author.Needs.{needs}
 use Rattle.integrity_pool.specs.Payment.{paymentIs}
 use Rattle.lent.specs.Payment.{paymentRecord}
