@@ -1,0 +1,34 @@
+-- What the functions return, and what stands in the caller's fixed arrays afterwards. Assumes nothing.
+use mathlib.Core.List.{List, [], _∷_}
+use Prim.Native.Nat.{ℕ}
+use Rattle.types.specs.Base.{Outcome, refused, accepted, after}
+use Rattle.advance_plan.specs.Advance.{Advanced}
+use Rattle.integrity_pool.specs.declared.payment.DelegationRecord.{DelegationRecord}
+use Rattle.integrity_pool.specs.Payment.{Payment}
+
+-- 0 where a call is accepted, else the refusal's number, which is never 0 (proofs/Refusals)
+abbrev pub numberOf : {A : Type 0} → Outcome A → ℕ
+numberOf (refused n) = n
+numberOf (accepted a) = 0
+
+-- y', what is set aside, rows matched, seated and dropped
+abbrev pub advanceAnswer : List ℕ → Outcome Advanced → List ℕ
+advanceAnswer found o = after o (λ a. a .y ∷ a .setAside ∷ a .matched ∷ a .seated ∷ a .dropped ∷ []) found
+
+-- what is set aside; of a slash event its epoch
+abbrev pub oneAnswer : List ℕ → Outcome ℕ → List ℕ
+oneAnswer found o = after o (λ a. a ∷ []) found
+
+-- the delegator's part, the publisher's part, by how much custody falls, the read count
+abbrev pub paymentAnswer : List ℕ → Outcome Payment → List ℕ
+paymentAnswer found o = after o (λ a. a .delegator ∷ a .publisher ∷ a .custodyFall ∷ a .reads ∷ []) found
+
+-- a staker's record as two words
+abbrev pub recordWords : DelegationRecord → List ℕ
+recordWords r = r .«last_epoch» .0 ∷ r .«next_slash_event_index» ∷ []
+
+abbrev pub paymentRecord : List ℕ → Outcome Payment → List ℕ
+paymentRecord found o = after o (λ a. recordWords (a .kept)) found
+
+abbrev pub slashRecord : List ℕ → Outcome DelegationRecord → List ℕ
+slashRecord found o = after o recordWords found
