@@ -1,2 +1,3 @@
 pub mod Inputs
 pub mod Answers
+pub mod Refusals
