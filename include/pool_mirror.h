@@ -1,23 +1,25 @@
-/* pool_mirror: the accounting of an oracle staking pool as a static library, for C99, C++ and all that can call C on x86-64.
+/* pool_mirror: the accounting of an oracle staking pool as a static library, for C99, C++ and every language that can call C on x86-64.
  *
- * Every function returns 0 where the call is accepted, else the refusal's number (1 to 27, listed below). On a refusal pool, record and answer are
- * as they were. What a function answers and writes is proved for input of any content and any length: nothing that a function can
- * test is asked of the caller. The definitions are cited in docs/PROVED.md.
+ * A function returns 0 where the call is accepted, else the refusal's number (1 to 27, listed below). On a refusal pool, record and answer are as they
+ * were. What a function returns, answers and writes is proved for input of any content and length; what it can test, it doesn't ask of the caller.
+ *
+ * To link: target/staticlib/libpool_mirror.a (`rt staticlib pool_mirror`), and a memcpy and a memset, which any C library has. clients/ has two
+ * programs in C and in Rust that use it.
  *
  * What every caller keeps, since no function can test it:
  *
  * - A list is a pointer and its number of elements: `pool_len` and `positions_len` count 64-bit words, `caps_len` bytes. The pointer is aligned to its
  *   element (8 bytes for a word) and reaches that many elements, all of them initialised.
- * - An array with a length in its type (a key of 4 words, a record of 2, an answer of 1, 4 or 5) has at least that length. No length is passed, so none is
- *   tested.
+ * - An array with a length in its type (a key of 4 words, a record of 2, an answer of 1, 4 or 5) has that length, and is aligned to 8 bytes. No length is
+ *   passed, so none is tested.
  * - No pointer is NULL: not that of an empty list, and not those of an absent account.
- * - `pool`, `record` and `answer` are the call's alone while it runs: they overlap each other and every other argument nowhere, and no other thread
- *   reads or writes them. An overlap breaks the contract silently: there is no error, and figures may be wrong. In a forecast the pool is const.
+ * - `pool`, `record` and `answer` overlap no other argument and not each other, and no other thread reads or writes them while the call runs. An overlap
+ *   breaks the contract silently: there is no error, and figures are wrong. In a forecast the pool is const.
  * - const arguments may overlap each other, and nobody writes them while the call runs.
- * - The caller's stack has room: POOL_MIRROR_STACK bytes are enough for every function.
+ * - The stack has POOL_MIRROR_STACK bytes left.
  *
- * The library keeps nothing between calls: it has no global and no thread-local state, allocates nothing, and makes no system call. So calls on
- * different pools may run at the same time.
+ * The library keeps nothing between calls: it has no global or thread-local state, allocates nothing and makes no system call. So calls on different
+ * pools may run at the same time.
  */
 #ifndef POOL_MIRROR_H
 #define POOL_MIRROR_H
@@ -48,13 +50,11 @@ extern "C" {
 #define POOL_MIRROR_MAX_P 1024
 #define POOL_MIRROR_MAX_E 52
 
-/* Amounts count smallest token units; y, ratios and fees count millionths; epochs count from 0.
- *
- * A key is 32 bytes as four little-endian words. The zero key stands for none.
+/* Amounts count smallest token units; y, ratios and fees count millionths. A key is 32 bytes as four little-endian words.
  *
  * A position is nine words: kind (0 empty, 1 voting, 2 pool), amount, activation epoch, start flag (0 or 1), epoch in which unlocking starts, the
- * publisher's key (4). An account has at most 256 positions, 2,304 words. In an empty one the other eight words are not looked at. A position
- * earns from its activation epoch on, up to the epoch before unlocking starts. */
+ * publisher's key (4). An account has at most 256 positions, 2,304 words. In an empty one the other eight words are not looked at, but
+ * they are there. */
 #define POOL_MIRROR_KEY_LEN 4
 #define POOL_MIRROR_POSITION_LEN 9
 #define POOL_MIRROR_MAX_POSITIONS 256
@@ -65,14 +65,14 @@ extern "C" {
 #define POOL_MIRROR_CAPS_LEN(rows) ((size_t)11 + (size_t)40 * (rows))
 #define POOL_MIRROR_MAX_ROWS 1024
 
-/* A staker's record with one publisher is two words: its last epoch (the epochs before it are paid) and the index of the next slash event to apply.
- * Payment and slash write it. A new staker's record is the epoch in which the first stake was added, and the publisher's number of slash events. */
+/* An account's record with one publisher is two words: its last epoch (what was earned before it is paid) and the index of the next slash event to apply.
+ * A payment writes the first, a slash the second. A new record is 0 and 0. */
 #define POOL_MIRROR_RECORD_LEN 2
 
-/* Enough for every function, and what calls it. */
-#define POOL_MIRROR_STACK 262144
+/* Enough for every function, whatever its input. Measured: 51 KiB in advance and forecast, 2 KiB in payment, less than 1 KiB in the others. */
+#define POOL_MIRROR_STACK 131072
 
-/* The state of a position, in `remove`. Any other number is refused where UNLOCKING is. */
+/* The state of a position, for pool_mirror_remove. Any other number is refused where UNLOCKING is. */
 enum pool_mirror_state {
     POOL_MIRROR_UNLOCKED = 0,
     POOL_MIRROR_LOCKING = 1,
@@ -118,8 +118,8 @@ uint64_t pool_mirror_fresh(uint64_t *pool, size_t pool_len, size_t p, size_t e, 
 
 /* The epochs from the pool's last one up to the one before `current_epoch` are passed: rewards are set aside for them, stake that was added
  * or removed counts from here on, and new publishers of the message take the seats that are left.
- * y is the yearless rate of one epoch, at most 10,000. custody is the balance of the reward custody, verified is 1 for a verified message, epoch_duration is
- * in seconds (on the chain 604,800).
+ * y is the rate for one epoch, custody the balance of the reward custody, verified 1 for a verified message; epoch_duration is in seconds (604,800 on the
+ * chain).
  * answer: y' (lower than y where custody does not cover it), the amount set aside, rows matched with a seat, rows newly seated, rows dropped.
  * Refusals: 1, 2, 3, 5, 7, 8, 13 for a negative time, 9, 13 for a total outside 0 to 2^63 - 1, an eligible sum or a reward past 64 bits or n reaching
  * 2^63, 14. */
@@ -133,9 +133,9 @@ uint64_t pool_mirror_forecast(const uint64_t *pool, size_t pool_len, size_t p, s
                               uint64_t verified, const uint8_t *caps, size_t caps_len, uint64_t epoch_duration, uint64_t answer[1]);
 
 /* An account's positions are paid what they have earned with one publisher since the record's last epoch, and the record moves to the current one.
- * `account` is the account that is paid. `publisher_account` is the one that gets the publisher's part: the seat's own stake account, or absent
- * (has_publisher_account 0, and its four words are not looked at) where the seat has none. custody_flag is 0 where that account has no custody
- * account. `positions` are all positions of the account; those with other publishers are passed over. unlocking_duration is in epochs (on the chain 1).
+ * `account` is the account that is paid. `publisher_account` is the one that gets the publisher's part: the seat's stake account, or absent
+ * (has_publisher_account 0: its four words make no difference) where the seat has none. A custody_flag of 0 says that this account has no custody
+ * account. `positions` are all positions of the account; those with other publishers are passed over. unlocking_duration is in epochs (1 on the chain).
  * answer: delegator's part, publisher's part, by how much custody falls (both parts with a publisher account, else the delegator's alone), and how many
  * events were read. Claimable falls by both parts.
  * Refusals: 1, 4, 10, 11, 12, 13 for an end of unlocking, a slot's amount, a rate, a reward or both parts together past 64 bits or a publisher's
@@ -176,8 +176,8 @@ uint64_t pool_mirror_slash(uint64_t *pool, size_t pool_len, size_t p, size_t e, 
 uint64_t pool_mirror_fee(uint64_t *pool, size_t pool_len, size_t p, size_t e, uint64_t fee);
 
 /* A publisher's own stake account is set, changed, or with has_new 0 taken away. A first account needs the publisher's or the reward authority's
- * signature; a later one the old account, which is the seat's, and its owner's signature. With has_old or has_new 0 the account is absent:
- * its words, the owner's and the list are then not looked at.
+ * signature; a later one the old account, which is the seat's, and its owner's signature. With has_old or has_new 0 the account is absent, and
+ * its words, the owner's and the list make no difference.
  * Refusals: 1, 4 for either list, 10, 11; then 23 if the seat has no account, else 26, 17, 24, 25; then 27. */
 uint64_t pool_mirror_stake_account(uint64_t *pool, size_t pool_len, size_t p, size_t e, const uint64_t publisher[4], const uint64_t signer[4],
                                    const uint64_t authority[4], uint64_t has_old, const uint64_t old_account[4], const uint64_t old_owner[4],
