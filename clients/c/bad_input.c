@@ -17,7 +17,7 @@ static const char *const NAMES[] = {"fresh", "advance", "forecast", "payment", "
 
 /* The good image has 2 seats and 4 events; the largest that a case uses would have 1,025 seats. */
 enum { P = 2, E = 4, MOST = 257 * 9, WORDS = POOL_MIRROR_IMAGE_LEN(1025, E), BYTES = 40972, BEFORE = 7777 };
-enum { OTHERS = 2 + 4 * P, OWN = 2 + 6 * P, ACCOUNTS = 2 + 8 * P, EVENTS = 2 + 12 * P, EVENT = 9 + 3 * P, COUNT = EVENTS + E * EVENT, SLASHES = COUNT + 1, FEES = SLASHES + P };
+enum { OTHERS = 2 + 4 * P, OWN = 2 + 6 * P, ACCOUNTS = 2 + 8 * P, EVENTS = 2 + 12 * P, EVENT = 9 + 3 * P, COUNT = EVENTS + E * EVENT, SLASHES = COUNT + 1 };
 
 /* All arguments of all functions. Words behind a list's length must stay as they were too. */
 struct input {
@@ -97,7 +97,7 @@ static void good(enum function f, struct input *in) {
     set_key(in->signer, OWNER), set_key(in->authority, AUTHORITY);
     in->has_old = 1, set_key(in->old_account, OWN_KEY), set_key(in->old_owner, OWNER);
     set_position(in->old_positions, 0, 1, 5, 0, 0, A), set_position(in->old_positions, 1, 2, 5, 0, 0, B), in->old_len = 18;
-    in->has_new = 1, set_key(in->new_account, NEW), set_position(in->new_positions, 0, 2, 5, 0, 0, B), in->new_len = 9;
+    in->has_new = 1, set_key(in->new_account, NEW), set_position(in->new_positions, 0, 2, 5, 0, 0, C), in->new_len = 9;
     for (size_t i = 0; i < LEN(in->answer); i++) {
         in->answer[i] = BEFORE;
     }
@@ -188,7 +188,7 @@ static uint64_t advance_fault(struct input *in, int k) {
     case 23: in->pool[OWN] = HALF - 1, in->pool[OWN + 1] = 1; return 13;
     case 24: in->pool[OTHERS] = in->pool[OWN] = in->pool[OTHERS + 2] = HALF - 1, set_row(in, 0, A, MAX), set_row(in, 1, B, MAX); return 13;
     case 25: in->pool[COUNT] = HALF - 1; return 13;
-    case 26: in->pool[1] = in->custody = MAX; return 13;
+    case 26: in->pool[1] = MAX; return 13;
     case 27: in->custody = 49999; return 14;
     case 28: in->custody = 0; return 14;
     default: return 0;
@@ -252,8 +252,8 @@ static uint64_t remove_fault(struct input *in, int k) {
     if (k < IMAGE) return image_fault(in, k);
     if (k < IMAGE + UP_TO_DATE) return seat_fault(in, k - IMAGE);
     switch (k - IMAGE - UP_TO_DATE) {
-    case 0: in->amount = HALF; return 13;
-    case 1: in->amount = MAX, in->state = POOL_MIRROR_UNLOCKED; return 13;
+    case 0: in->amount = MAX, in->state = POOL_MIRROR_UNLOCKED; return 13;
+    case 1: in->amount = HALF; return 13;
     case 2: in->state = POOL_MIRROR_PREUNLOCKING; return 15;
     case 3: in->state = POOL_MIRROR_UNLOCKING; return 15;
     case 4: in->state = 5; return 15;
@@ -286,16 +286,17 @@ static uint64_t slash_fault(struct input *in, int k) {
     case 4: in->index = 2, in->event_epoch = 20; return 20;
     case 5: in->index = 2, in->event_epoch = 19; return 20;
     case 6: in->index = 4, in->event_epoch = 20; return 20;
-    case 7: in->index = MAX, in->event_epoch = 19; return 13;
-    case 8: in->index = in->record[1] = MAX, in->event_epoch = 20; return 13;
-    case 9: in->pool[0] = 19; return 12;
-    case 10: in->pool[0] = 21; return 12;
-    case 11: set_key(in->publisher, ZERO); return 10;
-    case 12: set_key(in->publisher, C); return 11;
-    case 13: in->locked = 1000000; return 13;
-    case 14: in->locked = in->preunlocking = MAX; return 13;
-    case 15: in->pool[OTHERS] = MAX, in->preunlocking = HALF; return 13;
-    case 16: in->pool[OTHERS + 1] = HALF - 5; return 13;
+    case 7: in->index = MAX, in->record[1] = 3, in->event_epoch = 20; return 20;
+    case 8: in->index = MAX, in->event_epoch = 19; return 13;
+    case 9: in->index = in->record[1] = MAX, in->event_epoch = 20; return 13;
+    case 10: in->pool[0] = 19; return 12;
+    case 11: in->pool[0] = 21; return 12;
+    case 12: set_key(in->publisher, ZERO); return 10;
+    case 13: set_key(in->publisher, C); return 11;
+    case 14: in->locked = 1000000; return 13;
+    case 15: in->locked = in->preunlocking = MAX; return 13;
+    case 16: in->pool[OTHERS] = MAX, in->preunlocking = HALF; return 13;
+    case 17: in->pool[OTHERS + 1] = HALF - 5; return 13;
     default: return 0;
     }
 }
@@ -325,7 +326,7 @@ static uint64_t stake_account_fault(struct input *in, int k) {
     case 10: set_key(in->old_account, STAKER); return 17;
     case 11: set_key(in->old_positions + 9 + 5, A); return 24;
     case 12: set_key(in->signer, STAKER); return 25;
-    case 13: set_key(in->new_positions + 5, A); return 27;
+    case 13: set_position(in->new_positions, 0, 2, 5, 0, 0, B), set_position(in->new_positions, 1, 2, 5, 0, 0, A), in->new_len = 18; return 27;
     default: return 0;
     }
 }
@@ -424,8 +425,9 @@ static void limits(void) {
     good(SLASH, &in), in.locked = 999995, limit(SLASH, "all of the total");
     good(SLASH, &in), in.event_epoch = 19, in.index = MAX - 1, set_key(in.publisher, ZERO), limit(SLASH, "an older event");
     good(FEE, &in), in.fee = 1000000, limit(FEE, "fee");
-    good(STAKE_ACCOUNT, &in), in.has_new = 0, in.new_len = 0, limit(STAKE_ACCOUNT, "none");
-    good(STAKE_ACCOUNT, &in), set_key(in.publisher, B), set_key(in.signer, AUTHORITY), in.has_old = 0, in.old_len = 0;
+    /* The list of an absent account is not looked at. */
+    good(STAKE_ACCOUNT, &in), in.has_new = 0, in.new_len = 1, limit(STAKE_ACCOUNT, "none");
+    good(STAKE_ACCOUNT, &in), set_key(in.publisher, B), set_key(in.signer, AUTHORITY), in.has_old = 0, in.old_len = 1;
     set_position(in.new_positions, 0, 2, 5, 0, 0, A), limit(STAKE_ACCOUNT, "first account");
 
     /* The largest pool, and the longest message: 1,024 rows take its 1,024 seats. */

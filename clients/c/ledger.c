@@ -269,8 +269,9 @@ int main(void) {
     payment(&book, a, &own, &sam, sam_a, &sams);
     payment(&book, a, &own, &eve, eve_a, &eves);
 
-    /* A third publisher takes a seat, and what eve took back is free. */
+    /* A third publisher takes a seat. What eve took back earned nothing in epoch 105, and is free now. */
     advance(&book, 106, p, caps, 3);
+    payment(&book, a, &own, &eve, eve_a, &eves);
     take(&book, a, &eve, 90000, POOL_MIRROR_UNLOCKED);
     seats(&book, p, 3);
     printf("\nledger: %u entries, every check held\n", book.entries);

@@ -170,7 +170,7 @@ fn good(f: usize) -> Input {
     set_position(&mut i.positions, 1, 0, MAX, MAX, MAX, [MAX; 4]);
     set_position(&mut i.old_positions, 0, 1, 5, 0, 0, A);
     set_position(&mut i.old_positions, 1, 2, 5, 0, 0, B);
-    set_position(&mut i.new_positions, 0, 2, 5, 0, 0, B);
+    set_position(&mut i.new_positions, 0, 2, 5, 0, 0, C);
     i
 }
 
@@ -283,7 +283,7 @@ fn advance_fault(i: &mut Input, k: usize) -> u64 {
         23 => { i.pool[OWN] = HALF - 1; i.pool[OWN + 1] = 1; 13 }
         24 => { i.pool[OTHERS] = HALF - 1; i.pool[OWN] = HALF - 1; i.pool[OTHERS + 2] = HALF - 1; i.set_row(0, A, MAX); i.set_row(1, B, MAX); 13 }
         25 => { i.pool[COUNT] = HALF - 1; 13 }
-        26 => { i.pool[1] = MAX; i.custody = MAX; 13 }
+        26 => { i.pool[1] = MAX; 13 }
         27 => { i.custody = 49_999; 14 }
         28 => { i.custody = 0; 14 }
         _ => 0,
@@ -359,8 +359,8 @@ fn remove_fault(i: &mut Input, k: usize) -> u64 {
         return seat_fault(i, k - IMAGE);
     }
     match k - IMAGE - UP_TO_DATE {
-        0 => { i.amount = HALF; 13 }
-        1 => { i.amount = MAX; i.state = UNLOCKED; 13 }
+        0 => { i.amount = MAX; i.state = UNLOCKED; 13 }
+        1 => { i.amount = HALF; 13 }
         2 => { i.state = 3; 15 }
         3 => { i.state = 4; 15 }
         4 => { i.state = 5; 15 }
@@ -397,16 +397,17 @@ fn slash_fault(i: &mut Input, k: usize) -> u64 {
         4 => { i.index = 2; i.event_epoch = 20; 20 }
         5 => { i.index = 2; i.event_epoch = 19; 20 }
         6 => { i.index = 4; i.event_epoch = 20; 20 }
-        7 => { i.index = MAX; i.event_epoch = 19; 13 }
-        8 => { i.index = MAX; i.record[1] = MAX; i.event_epoch = 20; 13 }
-        9 => { i.pool[0] = 19; 12 }
-        10 => { i.pool[0] = 21; 12 }
-        11 => { i.publisher = ZERO; 10 }
-        12 => { i.publisher = C; 11 }
-        13 => { i.locked = 1_000_000; 13 }
-        14 => { i.locked = MAX; i.preunlocking = MAX; 13 }
-        15 => { i.pool[OTHERS] = MAX; i.preunlocking = HALF; 13 }
-        16 => { i.pool[OTHERS + 1] = HALF - 5; 13 }
+        7 => { i.index = MAX; i.record[1] = 3; i.event_epoch = 20; 20 }
+        8 => { i.index = MAX; i.event_epoch = 19; 13 }
+        9 => { i.index = MAX; i.record[1] = MAX; i.event_epoch = 20; 13 }
+        10 => { i.pool[0] = 19; 12 }
+        11 => { i.pool[0] = 21; 12 }
+        12 => { i.publisher = ZERO; 10 }
+        13 => { i.publisher = C; 11 }
+        14 => { i.locked = 1_000_000; 13 }
+        15 => { i.locked = MAX; i.preunlocking = MAX; 13 }
+        16 => { i.pool[OTHERS] = MAX; i.preunlocking = HALF; 13 }
+        17 => { i.pool[OTHERS + 1] = HALF - 5; 13 }
         _ => 0,
     }
 }
@@ -440,7 +441,12 @@ fn stake_account_fault(i: &mut Input, k: usize) -> u64 {
         10 => { i.old_account = STAKER; 17 }
         11 => { i.old_positions[14..18].copy_from_slice(&A); 24 }
         12 => { i.signer = STAKER; 25 }
-        13 => { i.new_positions[5..9].copy_from_slice(&A); 27 }
+        13 => {
+            set_position(&mut i.new_positions, 0, 2, 5, 0, 0, B);
+            set_position(&mut i.new_positions, 1, 2, 5, 0, 0, A);
+            i.new_len = 18;
+            27
+        }
         _ => 0,
     }
 }

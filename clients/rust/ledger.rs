@@ -252,8 +252,9 @@ fn main() {
     book.payment(a, Some(&own), &sam, &mut sam_a, &sams);
     book.payment(a, Some(&own), &eve, &mut eve_a, &eves);
 
-    // A third publisher takes a seat, and what eve took back is free.
+    // A third publisher takes a seat. What eve took back earned nothing in epoch 105, and is free now.
     book.advance(106, &p, &caps);
+    book.payment(a, Some(&own), &eve, &mut eve_a, &eves);
     book.remove(a, &eve, 90_000, UNLOCKED);
     book.seats(&p);
     println!("\nledger: {} entries, every check held", book.entries);
