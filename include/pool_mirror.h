@@ -14,7 +14,7 @@
  *   passed, so none is tested.
  * - No pointer is NULL: not that of an empty list, and not those of an absent account.
  * - `pool`, `record` and `answer` overlap no other argument and not each other, and no other thread reads or writes them while the call runs. An overlap
- *   breaks the contract silently: there is no error, and figures are wrong. In a forecast the pool is const.
+ *   breaks the contract silently: no error, wrong figures. In a forecast the pool is const.
  * - const arguments may overlap each other, and nobody writes them while the call runs.
  * - The stack has POOL_MIRROR_STACK bytes left.
  *
@@ -34,14 +34,14 @@ extern "C" {
 /* The image of a pool with p seats (1 to 1,024) and e events (1 to 52) is a list of words: 91 at 2 and 4, 174,551 at 1,024 and 52. With p seats of
  * publishers, s from 0, and slots t of the ring of events from 0, the words stand at
  *
- *   0                                last epoch: the pool's accounts are complete up to here
+ *   0                                last epoch: the epochs before it are passed
  *   1                                claimable: set aside and not paid yet
  *   2 + 4 s                          publisher's key, 4 words
  *   2 + 4 p + 2 s                    the stakers' total, and behind it its signed change in the next epoch (two's complement)
  *   2 + 6 p + 2 s                    the same for the publisher's own stake account
  *   2 + 8 p + 4 s                    key of the publisher's own stake account, 4 words, zero where it has none
  *   2 + 12 p + t (9 + 3 p)           event: epoch, y, 7 spare words, then for each seat self ratio, other ratio, fee
- *   2 + 12 p + e (9 + 3 p)           n, the number of events so far; the newest stands at slot (n - 1) mod e
+ *   2 + 12 p + e (9 + 3 p)           n, the number of events so far; the newest is in slot (n - 1) mod e
  *   3 + 12 p + e (9 + 3 p) + s       number of slash events
  *   3 + 13 p + e (9 + 3 p) + s       fee
  *
@@ -50,7 +50,8 @@ extern "C" {
 #define POOL_MIRROR_MAX_P 1024
 #define POOL_MIRROR_MAX_E 52
 
-/* Amounts count smallest token units; y, ratios and fees count millionths. A key is 32 bytes as four little-endian words.
+/* Amounts count smallest token units; y, ratios and fees count millionths. A key is 32 bytes as four little-endian words. An account that
+ * may be absent comes with a flag: 0 says that it is absent, any other number that it is there.
  *
  * A position is nine words: kind (0 empty, 1 voting, 2 pool), amount, activation epoch, start flag (0 or 1), epoch in which unlocking starts, the
  * publisher's key (4). An account has at most 256 positions, 2,304 words. In an empty one the other eight words are not looked at, but
@@ -65,7 +66,7 @@ extern "C" {
 #define POOL_MIRROR_CAPS_LEN(rows) ((size_t)11 + (size_t)40 * (rows))
 #define POOL_MIRROR_MAX_ROWS 1024
 
-/* An account's record with one publisher is two words: its last epoch (what was earned before it is paid) and the index of the next slash event to apply.
+/* An account's record with one publisher is two words: its last epoch (the epochs before it are paid) and the index of the next slash event to apply.
  * A payment writes the first, a slash the second. A new record is 0 and 0. */
 #define POOL_MIRROR_RECORD_LEN 2
 
@@ -112,7 +113,7 @@ enum pool_mirror_refusal {
     POOL_MIRROR_NEW_STAKE_ACCOUNT_SHOULD_BE_UNDELEGATED = 27     /* the new account holds a position with this publisher */
 };
 
-/* A new pool in `epoch`: every word 0 but the last epoch, which is epoch - 1. The pool's words must be initialised, and what they hold makes no difference.
+/* A new pool in `epoch`: every word 0 but the last epoch, which is epoch - 1. What the words held makes no difference.
  * Refusals: 1 (n is not looked at), 2 for epoch 0. */
 uint64_t pool_mirror_fresh(uint64_t *pool, size_t pool_len, size_t p, size_t e, uint64_t epoch);
 
