@@ -27,6 +27,8 @@
 #include <stddef.h>
 #include <stdint.h>
 
+#define POOL_MIRROR_VERSION "0.6.0"
+
 #ifdef __cplusplus
 extern "C" {
 #endif
