@@ -77,8 +77,8 @@ def read(path):
 
 
 class Workspace:
-    def __init__(self, sources, out, p, e, seconds, unlocking):
-        self.sources, self.out, self.unlocking = sources, out, unlocking
+    def __init__(self, sources, out, p, e, seconds, unlocking, program):
+        self.sources, self.out, self.unlocking, self.program = sources, out, unlocking, program
         self.edits = edits(p, e, seconds)
 
     def source(self, path):
@@ -150,10 +150,12 @@ class Workspace:
                       "anchor_lang anchor_spl borsh bytemuck publisher_caps staking",
                       '\n[lib]\npath = "src/root.rs"\n\n[lints.rust]\n'
                       'unused_imports = "allow"\nunconditional_panic = "allow"\n')
-        main = os.path.relpath(f"{HERE}/driver/main.rs", os.path.join(self.out, "driver"))
+        name, folder = self.program
+        at = os.path.relpath(folder, os.path.join(self.out, "driver"))
+        build = f'build = "{at}/build.rs"\n' if os.path.exists(f"{folder}/build.rs") else ""
         self.manifest("driver", "2021",
                       "anchor_lang anchor_spl integrity_pool publisher_caps staking",
-                      f'\n[[bin]]\nname = "oracle"\npath = "{main}"\n')
+                      f'{build}\n[[bin]]\nname = "{name}"\npath = "{at}/main.rs"\n')
         self.put("Cargo.toml", '[workspace]\nresolver = "2"\nmembers = ["driver", "integrity_pool",'
                  ' "publisher_caps", "staking"]\n\n[profile.release]\noverflow-checks = true\n'
                  'panic = "unwind"\nopt-level = 3\n')
@@ -189,8 +191,9 @@ class Workspace:
         self.put("UNCHANGED.txt", "\n".join(report) + "\n")
 
 
-def prepare(sources, out, p, e, seconds, unlocking):
-    w = Workspace(sources, out, p, e, seconds, unlocking)
+def prepare(sources, out, p, e, seconds, unlocking, program=("oracle", f"{HERE}/driver")):
+    """`program` is the name of the program over them and its folder, with main.rs and perhaps build.rs."""
+    w = Workspace(sources, out, p, e, seconds, unlocking, program)
     w.write_pool()
     w.write_parts()
     w.write_manifests()
