@@ -87,7 +87,7 @@ pub fn all(pool: &[u64]) -> Vec<Case> {
     let first_seats = |i| publisher(pool, i);
     let last = publisher(pool, P - 1);
     vec![
-        // every word of the full pool is to become 0 but for the last epoch; of the Rust the zeroing is timed with its call
+        // every word becomes 0 but for the last epoch; the zeroing is part of the time of both
         case("fresh", 1, Call::Fresh(LAST)),
         // 1 epoch behind; 1,024 rows, one for each seat
         case("advance, 1 epoch, 1,024 rows matched", 1, Call::Advance(advance(1, seated()))),
@@ -111,7 +111,7 @@ pub fn all(pool: &[u64]) -> Vec<Case> {
         ),
         // 256 positions in the publisher, a record from 60 epochs ago: 52 events are read for each
         case("payment, 256 matching, 52 events", MANY, payment(pool, 60, positions(256, |_| paid))),
-        // 256 positions in the publisher, a record from 5 epochs ago: 5 events count, and the one too old is read
+        // 256 positions in the publisher, a record from 5 epochs ago: 6 events are read, one too old
         case("payment, 256 matching, 5 events", MANY, payment(pool, 5, positions(256, |_| paid))),
         // 1 position in the publisher, a record from 60 epochs ago
         case("payment, 1 matching, 52 events", MANY, payment(pool, 60, positions(1, |_| paid))),
