@@ -2,7 +2,7 @@
 use mathlib.Core.Path.{_≡_, refl, sym, subst, _∙_}
 use mathlib.Core.Bool.{Bool, true, false}
 use mathlib.Core.List.{List}
-use Prim.Native.Nat.{ℕ, suc, _+_, _<_, _≤_}
+use Prim.Native.Nat.{ℕ, suc, _+_, _%_, _^_, _<_, _≤_}
 use native.Mathlib.Nat.{zero-add}
 use native.Mathlib.Numerals.{add-one}
 use native.Mathlib.Omega.{arith}
@@ -29,7 +29,7 @@ use Rattle.journal.proofs.CallsLaws.{spaced}
 use Rattle.journal.specs.Held.{Parted}
 use Rattle.journal.specs.Calls.{n, o, wholeOf}
 use Rattle.journal.specs.Calls as calls
-use Rattle.journal.specs.Fields.{whatOf, put, whatKey, putKey, states, stateOf, whatState, putState, noneName, isNone, whatValue, putValue, MessageRead, PathRead, countWords, whatWords, partOf, parted, ListRead, roomOf, unendedOf, cutOf}
+use Rattle.journal.specs.Fields.{whatOf, put, whatKey, putKey, states, stateOf, whatState, putState, noneName, isNone, whatValue, putValue, MessageRead, PathRead, countWords, whatWords, partOf, parted, ListRead, roomOf, unendedOf, cutOf, wrongField}
 
 -- a number that is read as r
 module _ (r x : Number) (is : r ≡ x) (k : ℕ) (l : List ℕ) where
@@ -225,6 +225,20 @@ module _ (call k stop : ℕ) where
     pub cut-few : r ≡ false → 2 ≡ cutOf call k stop
     unfolding cutOf
     cut-few t = rw (ne-eqb _ _ n, ← is, t)
+
+module _ (what count : ℕ) where
+  pub field-none : what ≡ 3 → 0 ≡ wrongField what count
+  unfolding wrongField
+  field-none e = rw (eq-eqb _ _ e)
+
+  module _ (n : what ≡ 3 → ⊥) where
+    pub field-next : (r : ℕ) → what ≡ 2 → r ≡ (count + 1) % 2 ^ 64 → r ≡ wrongField what count
+    unfolding wrongField
+    field-next r e is = rw (ne-eqb _ _ n, eq-eqb _ _ e) is
+
+    pub field-last : (what ≡ 2 → ⊥) → count ≡ wrongField what count
+    unfolding wrongField
+    field-last m = rw (ne-eqb _ _ n, ne-eqb _ _ m)
 
 -- a path that has room is copied
 pub read-whole : (s old new : List ℕ) (count what : ℕ) → length s ≤ length old → PathRead s old new count what → new ≡ paste old 0 s (length s)

@@ -25,11 +25,12 @@ names =
     ∷ (115 ∷ 108 ∷ 97 ∷ 115 ∷ 104 ∷ [])  -- slash
     ∷ (102 ∷ 101 ∷ 101 ∷ [])  -- fee
     ∷ (115 ∷ 116 ∷ 97 ∷ 107 ∷ 101 ∷ 45 ∷ 97 ∷ 99 ∷ 99 ∷ 111 ∷ 117 ∷ 110 ∷ 116 ∷ [])  -- stake-account
+    ∷ (115 ∷ 104 ∷ 111 ∷ 119 ∷ [])  -- show
     ∷ []
 
 -- how many calls there are, the one that is none counted too
 abbrev pub callCount : ℕ
-callCount = 17
+callCount = 18
 
 -- the call of a name; 0 for a name that is not there
 abbrev pub callOf : List ℕ → ℕ
@@ -84,6 +85,7 @@ fields =
     ∷ (n ∷ k ∷ k ∷ n ∷ n ∷ n ∷ n ∷ n ∷ n ∷ [])  -- slash NOW PUBLISHER ACCOUNT RECORD_EPOCH NEXT_INDEX INDEX EVENT_EPOCH LOCKED PREUNLOCKING
     ∷ (n ∷ [])  -- fee FEE
     ∷ (k ∷ k ∷ k ∷ o ∷ o ∷ l ∷ o ∷ l ∷ [])  -- stake-account PUBLISHER SIGNER AUTHORITY OLD OLD_OWNER OLD_POSITIONS NEW NEW_POSITIONS
+    ∷ []  -- show
     ∷ []
 
 -- the kind of field i of a call

@@ -2,7 +2,7 @@
 use mathlib.Core.Path.{_≡_}
 use mathlib.Core.Bool.{Bool, false, cond}
 use mathlib.Core.List.{List, [], _∷_}
-use Prim.Native.Nat.{ℕ, _+_, _*_, _≤_, _<_}
+use Prim.Native.Nat.{ℕ, _+_, _*_, _%_, _^_, _≤_, _<_}
 use lib.Dec.{eqb, ltb, leb}
 use lib.ListN.{length, set}
 use lib.Seq.{paste}
@@ -25,6 +25,9 @@ use Rattle.journal.specs.Calls as calls
 -- what is wrong, 0 being nothing
 abbrev pub tooFew : ℕ
 tooFew = 2
+
+abbrev pub tooMany : ℕ
+tooMany = 3
 
 abbrev pub notNumber : ℕ
 notNumber = 4
@@ -187,3 +190,8 @@ unendedOf stop = cond (eqb stop 258) longField (cond (eqb stop 257) noInput 0)
 -- a call that ends after k fields
 unfoldable pub cutOf : (call k stop : ℕ) → ℕ
 cutOf call k stop = cond (eqb stop 257) noInput (cond (wholeOf call k) 0 tooFew)
+
+-- the field that is wrong, the first being 1, of a line of which `count` fields were looked at: the last of them, a missing one the next; a field
+-- too many has no name, which is 0
+unfoldable pub wrongField : (what count : ℕ) → ℕ
+wrongField what count = cond (eqb what tooMany) 0 (cond (eqb what tooFew) ((count + 1) % 2 ^ 64) count)

@@ -5,7 +5,7 @@ ghost use lib.ListN.{length};
 ghost use Rattle.text.specs.Decimal.{numberOf};
 ghost use Rattle.text.specs.Key.{keyOf};
 ghost use Rattle.journal.specs.Held.{Unread, Parted};
-ghost use Rattle.journal.specs.Fields.{whatOf, put, whatKey, putKey, stateOf, whatState, putState, isNone, whatValue, putValue, MessageRead, PathRead, countWords, whatWords, ListRead, roomOf, unendedOf};
+ghost use Rattle.journal.specs.Fields.{whatOf, put, whatKey, putKey, stateOf, whatState, putState, isNone, whatValue, putValue, MessageRead, PathRead, countWords, whatWords, ListRead, roomOf, unendedOf, wrongField};
 use crate::calls;
 use crate::input;
 use text::BytesRead;
@@ -219,6 +219,19 @@ pub fn unended(stop: usize) -> u8
         return NO_INPUT;
     }
     0
+}
+
+// The field that is wrong, the first being 1, of a line of which `count` fields were looked at; 0 where it is none that has a name.
+pub fn wrong_field(what: u8, count: usize) -> usize
+    ensures { λ r. ⌜ r ≡ wrongField what count ⌝ }
+{
+    if what == TOO_MANY {
+        return 0;
+    }
+    if what == TOO_FEW {
+        return std::num::wrapping_add_usize(count, 1);
+    }
+    count
 }
 
 // What the words of a list came to.

@@ -13,7 +13,7 @@ use Rattle.pool.specs.declared.changes.Delegation.{Delegation}
 use Rattle.integrity_pool.specs.declared.payment.DelegationRecord.{DelegationRecord}
 use Rattle.integrity_pool.specs.declared.slash.Slashing.{Slashing}
 use Rattle.integrity_pool.specs.declared.stake_account.StakeAccounts.{StakeAccounts}
-use Rattle.mirror.specs.Args.{numberAt, keyAt, keyOrNone, recordIn, delegationIn, slashingIn, accountsIn, stateNumbered, wrongAccount, wrongAccounts, stakeAccount, wrongLine}
+use Rattle.mirror.specs.Args.{numberAt, keyAt, keyOrNone, recordIn, delegationIn, slashingIn, accountsIn, stateNumbered, wrongAccount, wrongAccounts, wrongAccountField, stakeAccount, wrongLine}
 
 module _ (args : List ℕ) (k : ℕ) where
   pub no-key : getD args k 0 ≡ 0 → None ≡ keyOrNone args k
@@ -121,6 +121,21 @@ module _ (args : List ℕ) (old new what : ℕ) (is : what ≡ wrongAccount (num
   pub wrong-new : (r : ℕ) → what ≡ 0 → r ≡ wrongAccount (numberAt args 6) (numberAt args 6) new → r ≡ wrongAccounts args old new
   unfolding wrongAccounts
   wrong-new r e q = rw (← is, eq-eqb _ _ e) q
+
+-- which field is wrong
+module _ (args : List ℕ) (old owner : ℕ) (is : owner ≡ wrongAccount (numberAt args 3) (numberAt args 4) 0) where
+  pub field-owner : (owner ≡ 0 → ⊥) → 5 ≡ wrongAccountField args old
+  unfolding wrongAccountField
+  field-owner n = rw (← is, ne-eqb _ _ n)
+
+  module _ (right : owner ≡ 0) (positions : ℕ) (are : positions ≡ wrongAccount (numberAt args 3) (numberAt args 4) old) where
+    pub field-old : (positions ≡ 0 → ⊥) → 6 ≡ wrongAccountField args old
+    unfolding wrongAccountField
+    field-old n = rw (← is, eq-eqb _ _ right, ← are, ne-eqb _ _ n)
+
+    pub field-new : positions ≡ 0 → 8 ≡ wrongAccountField args old
+    unfolding wrongAccountField
+    field-new e = rw (← is, eq-eqb _ _ right, ← are, eq-eqb _ _ e)
 
 module _ (call : ℕ) (args : List ℕ) (old new : ℕ) where
   pub line-accounts : (r : ℕ) → call ≡ stakeAccount → r ≡ wrongAccounts args old new → r ≡ wrongLine call args old new

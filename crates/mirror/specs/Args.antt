@@ -75,6 +75,11 @@ wrongAccounts args old new =
     (wrongAccount (numberAt args 6) (numberAt args 6) new)
     (wrongAccount (numberAt args 3) (numberAt args 4) old)
 
+-- the field that is wrong, the first being 1, where one is: OLD_OWNER is, whatever the positions; OLD_POSITIONS; or NEW_POSITIONS
+unfoldable pub wrongAccountField : List ℕ → (old : ℕ) → ℕ
+wrongAccountField args old =
+    cond (eqb (wrongAccount (numberAt args 3) (numberAt args 4) 0) 0) (cond (eqb (wrongAccount (numberAt args 3) (numberAt args 4) old) 0) 8 6) 5
+
 -- the call stake-account, whose fields may be wrong together where each is right
 abbrev pub stakeAccount : ℕ
 stakeAccount = 16

@@ -7,11 +7,20 @@ use crate::image_calls::image_call;
 use crate::pool_calls::pool_call;
 use crate::site::Done;
 use crate::site::Site;
-use crate::site::finished;
+use crate::site::failed;
 use crate::site::site_call;
 use journal::calls;
+use journal::fields;
 use journal::line::Line;
 use journal::output::Pen;
+
+// Whether a call is on the image as it is, the calls that lay out a site left out.
+fn on_image(call: usize) -> bool {
+    if call == calls::SHOW {
+        return true;
+    }
+    call <= calls::NONZERO
+}
 
 // One call, its fields read.
 pub fn act(
@@ -27,7 +36,8 @@ pub fn act(
     ensures { λ r. ⌜ Kept (r .site .size) (r .pen .at) (length (now (pool .entry))) (length (now (out .entry))) ⌝ }
 {
     if line.what != 0 {
-        return finished(site, pen, line.what);
+        let field = fields::wrong_field(line.what, line.count);
+        return failed(site, pen, field, line.what);
     }
     let call = line.call;
     let args = line.args;
@@ -41,7 +51,7 @@ pub fn act(
     if call <= calls::SETTINGS {
         return site_call(call, site, args, pool, out, pen);
     }
-    if call <= calls::NONZERO {
+    if on_image(call) {
         return image_call(call, site, line.count == 1, list, pool, out, pen);
     }
     if call <= calls::SAVE {

@@ -4,10 +4,11 @@ ghost use Prim.Native.Nat.{_≤_};
 ghost use lib.ListN.{length};
 ghost use Rattle.journal.specs.Held.{Writable};
 ghost use Rattle.mirror.specs.Site.{Ready, Kept};
-ghost use Rattle.mirror.specs.Args.{slashingIn, accountsIn, wrongAccount, wrongAccounts, wrongLine};
+ghost use Rattle.mirror.specs.Args.{slashingIn, accountsIn, wrongAccount, wrongAccounts, wrongAccountField, wrongLine};
 use crate::args;
 use crate::site::Done;
 use crate::site::Site;
+use crate::site::failed;
 use crate::site::finished;
 use integrity_pool::changes;
 use integrity_pool::slash;
@@ -152,6 +153,21 @@ fn wrong_accounts(args: [u64; 50], old: usize, new: usize) -> u8
     wrong_account(args[6], args[6], new)
 }
 
+// The field that is wrong, the first being 1, where one is: the old account's owner, its positions, or the new one's.
+fn wrong_account_field(args: [u64; 50], old: usize) -> usize
+    ensures { λ r. ⌜ r ≡ wrongAccountField args old ⌝ }
+{
+    let owner = wrong_account(args[3], args[4], 0);
+    if owner != 0 {
+        return 5;
+    }
+    let positions = wrong_account(args[3], args[4], old);
+    if positions != 0 {
+        return 6;
+    }
+    8
+}
+
 // The keys of a line that sets a stake account.
 fn accounts(args: [u64; 50]) -> StakeAccounts
     ensures { λ r. ⌜ r ≡ accountsIn args ⌝ }
@@ -263,10 +279,11 @@ pub fn change_call(
 {
     let what = wrong_line(call, args, old.len(), new.len());
     if what != 0 {
-        return finished(site, pen, what);
+        let field = wrong_account_field(args, old.len());
+        return failed(site, pen, field, what);
     }
     let size = site.size;
     let image = &mut pool[..size];
     let told = change(call, site, args, old, new, image, out, pen);
-    finished(site, told, 0)
+    finished(site, told)
 }

@@ -7,6 +7,7 @@ ghost use Rattle.journal.specs.Held.{Writable};
 ghost use Rattle.mirror.specs.Site.{Ready, Kept, NextNonzero};
 use crate::site::Done;
 use crate::site::Site;
+use crate::site::failed;
 use crate::site::finished;
 use crate::site::tell_size;
 use journal::answer;
@@ -54,13 +55,16 @@ fn nonzero(image: &[u64], out: &mut [u8], pen: Pen) -> Pen
     output::byte(out, next, b'\n')
 }
 
-// image and nonzero
-fn tell_image(call: usize, image: &[u64], out: &mut [u8], pen: Pen) -> Pen
+// image, nonzero and show
+fn tell_image(call: usize, site: Site, image: &[u64], out: &mut [u8], pen: Pen) -> Pen
     requires { ⌜ Writable (pen .at) (length (now out)) ⌝ }
     ensures { λ r. ⌜ r .at ≤ length (now (out .entry)) ⌝ }
 {
     if call == calls::IMAGE {
         return answer::ok(out, pen, image);
+    }
+    if call == calls::SHOW {
+        return show::show(image, site.p, site.e, out, pen);
     }
     nonzero(image, out, pen)
 }
@@ -72,7 +76,7 @@ fn load(site: Site, path: &[u8], pool: &mut [u64], out: &mut [u8], pen: Pen) -> 
 {
     let got = files::load(path, pool);
     if got.what != 0 {
-        return finished(site, pen, got.what);
+        return failed(site, pen, 1, got.what);
     }
     tell_size(site.sized(got.count), out, pen)
 }
@@ -84,7 +88,7 @@ fn save(site: Site, path: &[u8], image: &[u64], out: &mut [u8], pen: Pen) -> Don
 {
     let what = files::save(path, image);
     if what != 0 {
-        return finished(site, pen, what);
+        return failed(site, pen, 1, what);
     }
     tell_size(site, out, pen)
 }
@@ -127,8 +131,8 @@ pub fn image_call(
         return take_image(site, words, pool, out, pen);
     }
     let size = site.size;
-    let told = tell_image(call, &pool[..size], out, pen);
-    finished(site, told, 0)
+    let told = tell_image(call, site, &pool[..size], out, pen);
+    finished(site, told)
 }
 
 // Calls on files.

@@ -87,12 +87,8 @@ fn finish(
         return done;
     }
     let last = done.site;
-    let told = answer::wrong(out, done.pen, number, what);
-    Done {
-        site: last,
-        pen: told,
-        what,
-    }
+    let told = answer::wrong(out, done.pen, number, read.call, done.field, what);
+    site::failed(last, told, done.field, what)
 }
 
 // A line that is a call, its name at `from`.
@@ -135,7 +131,7 @@ fn stop(at: usize, end: usize, byte: usize, out: &mut [u8], state: State) -> Sta
     let site = state.site;
     let pen = state.pen;
     if byte == input::FAILED {
-        let told = answer::wrong(out, pen, number, fields::NO_INPUT);
+        let told = answer::wrong(out, pen, number, 0, 0, fields::NO_INPUT);
         return State {
             at,
             end,

@@ -181,5 +181,5 @@ pub fn pool_call(
     let size = site.size;
     let image = &mut pool[..size];
     let told = ask(call, site, args, message, positions, image, out, pen);
-    finished(site, told, 0)
+    finished(site, told)
 }

@@ -17,10 +17,11 @@ pub struct Site {
     pub unlocking_duration: u64,
 }
 
-// The site after a call, the pen, and what was wrong, or 0.
+// The site after a call, the pen, which field was wrong, the first being 1, or 0, and what was wrong, or 0.
 pub struct Done {
     pub site: Site,
     pub pen: Pen,
+    pub field: usize,
     pub what: u8,
 }
 
@@ -63,10 +64,28 @@ impl Site {
     }
 }
 
-pub fn finished(site: Site, pen: Pen, what: u8) -> Done
+// After a call that was made.
+pub fn finished(site: Site, pen: Pen) -> Done
     ensures { λ r. ⌜ (r .site .size ≤ site .size) × (r .pen .at ≤ pen .at) ⌝ }
 {
-    Done { site, pen, what }
+    Done {
+        site,
+        pen,
+        field: 0,
+        what: 0,
+    }
+}
+
+// After a line that was wrong.
+pub fn failed(site: Site, pen: Pen, field: usize, what: u8) -> Done
+    ensures { λ r. ⌜ (r .site .size ≤ site .size) × (r .pen .at ≤ pen .at) ⌝ }
+{
+    Done {
+        site,
+        pen,
+        field,
+        what,
+    }
 }
 
 // The image's length as the answer.
@@ -76,11 +95,7 @@ pub fn tell_size(site: Site, out: &mut [u8], pen: Pen) -> Done
 {
     let size = site.size;
     let next = answer::ok(out, pen, &[size as u64]);
-    Done {
-        site,
-        pen: next,
-        what: 0,
-    }
+    finished(site, next)
 }
 
 // new P E
@@ -115,7 +130,7 @@ fn settings(site: Site, args: [u64; 50], out: &mut [u8], pen: Pen) -> Done
         unlocking_duration: args[1],
     };
     let told = answer::ok(out, pen, &[]);
-    finished(next, told, 0)
+    finished(next, told)
 }
 
 // Calls that lay out a site.

@@ -5,8 +5,11 @@ use borrow.Author.Needs.{needs}
 use Rattle.mirror.proofs.calls.act.Statement.{statement}
 use Rattle.mirror.proofs.calls.act.Tie as tie
 
-finished-requires : tie.Need-finished-requires
-finished-requires c κs = search needs
+wrong-field-requires : tie.Need-wrong-field-requires
+wrong-field-requires c κs = search needs
+
+failed-requires : tie.Need-failed-requires
+failed-requires c κs = search needs
 
 returns : tie.Need-returns
 returns c = search needs
@@ -40,6 +43,9 @@ same-length-2 c = search needs
 
 returns-2 : tie.Need-returns-2
 returns-2 c = search needs
+
+on-image-requires : tie.Need-on-image-requires
+on-image-requires c κs = search needs
 
 image-call-requires : tie.Need-image-call-requires
 image-call-requires c κs = search needs
@@ -93,7 +99,8 @@ pub act-spec : {M : Type 1} → statement M
 act-spec =
     tie.close
     (tie.spec
-    finished-requires
+    wrong-field-requires
+    failed-requires
     returns
     slice-aggregate-field
     slice-aggregate-first
@@ -105,6 +112,7 @@ act-spec =
     same-length
     same-length-2
     returns-2
+    on-image-requires
     image-call-requires
     same-length-3
     same-length-4

@@ -8,8 +8,11 @@ use Rattle.mirror.proofs.change_calls.change_call.Tie as tie
 wrong-line-requires : tie.Need-wrong-line-requires
 wrong-line-requires c κs = search needs
 
-finished-requires : tie.Need-finished-requires
-finished-requires c κs = search needs
+wrong-account-field-requires : tie.Need-wrong-account-field-requires
+wrong-account-field-requires c κs = search needs
+
+failed-requires : tie.Need-failed-requires
+failed-requires c κs = search needs
 
 returns : tie.Need-returns
 returns c = search needs
@@ -23,8 +26,8 @@ slice-aggregate-image c = simp length-take (omega arith)
 change-requires : tie.Need-change-requires
 change-requires c κs = search needs
 
-finished-requires-2 : tie.Need-finished-requires-2
-finished-requires-2 c κs = search needs
+finished-requires : tie.Need-finished-requires
+finished-requires c κs = search needs
 
 same-length : tie.Need-same-length
 same-length c = search needs
@@ -40,12 +43,13 @@ change-call-spec =
     tie.close
     (tie.spec
     wrong-line-requires
-    finished-requires
+    wrong-account-field-requires
+    failed-requires
     returns
     slice-relend-prefix-image
     slice-aggregate-image
     change-requires
-    finished-requires-2
+    finished-requires
     same-length
     same-length-2
     returns-2)

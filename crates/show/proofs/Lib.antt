@@ -1,0 +1,2 @@
+pub mod CellsLaws
+pub mod RowsLaws
