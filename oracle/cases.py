@@ -1,7 +1,7 @@
 """Cases with the answers written by hand. For the program alone: the journal's forms, files, wrong lines. For the program, the Rust and the
 model: payments, each sentence of document 01's item 8 and each refusal at its edge.
 
-An answer that ends in a colon stands for any line that begins so: a wrong line's reason is the program's own.
+Of a wrong line the whole text is the program's; the Rust's is compared up to the colon.
 """
 from typing import NamedTuple
 
@@ -24,39 +24,86 @@ class Case(NamedTuple):
     listed: bool = False    # the Rust answers otherwise, as docs/DIFFERENCES.md lists
 
 
-def fits(got, wanted):
-    """The oracle's `outside` fits any refusal: where the Rust can't be asked."""
-    if wanted.endswith(":"):
-        return got.startswith(wanted)
-    return got == wanted or (got == "outside" and wanted.startswith("refused"))
+def fits(got, wanted, oracle):
+    """The oracle's `outside` fits any refusal and any table: where the Rust can't be asked."""
+    if oracle and wanted.startswith("line "):
+        return got.split(":")[0] == wanted.split(":")[0]
+    return got == wanted or (got == "outside" and (wanted.startswith("refused") or "\n" in wanted))
 
 
 def little_endian(words):
     return b"".join(w.to_bytes(8, "little") for w in words)
 
 
-def wrong(line):
+def wrong(line, what):
     """A line that ends the run; the one behind it is not answered."""
-    return Case(f"new 1 1\n{line}\nnonzero\n", ["ok 29", "line 2:"])
+    return Case(f"new 1 1\n{line}\nnonzero\n", ["ok 29", f"line 2: {what}"])
 
 
+def named(line, at, what):
+    """What is said of a line's wrong field, the first being 1."""
+    call = line.split()[0]
+    return f"{call} {FIELDS[call].split()[at - 1]}: {what}"
+
+
+def with_field(line, at, field):
+    """The line with another field in this place; the first is 1."""
+    fields = line.split()
+    return " ".join(fields[:at] + [field] + fields[at + 1:])
+
+
+# The fields' names, as the README's table has them.
+FIELDS = {
+    "new": "P E", "settings": "SECONDS UNLOCKING", "image": "WORDS", "nonzero": "", "load": "PATH", "save": "PATH", "fresh": "EPOCH",
+    "advance": "NOW Y CUSTODY VERIFIED CAPS", "forecast": "NOW Y CUSTODY VERIFIED CAPS",
+    "payment": "NOW PUBLISHER ACCOUNT RECORD_EPOCH NEXT_INDEX PUBLISHER_ACCOUNT CUSTODY_FLAG POSITIONS", "add": "NOW PUBLISHER ACCOUNT AMOUNT",
+    "remove": "NOW PUBLISHER ACCOUNT AMOUNT STATE", "create-slash-event": "NOW PUBLISHER INDEX",
+    "slash": "NOW PUBLISHER ACCOUNT RECORD_EPOCH NEXT_INDEX INDEX EVENT_EPOCH LOCKED PREUNLOCKING", "fee": "FEE",
+    "stake-account": "PUBLISHER SIGNER AUTHORITY OLD OLD_OWNER OLD_POSITIONS NEW NEW_POSITIONS", "show": "",
+}
+FEW, MANY, NUMBER, LARGE, KEY = "a field too few", "a field too many", "not a number", "a number too large", "not a key"
+
+
+ITEM = "0" * 131_073        # an item longer than the program's buffer
+CALL = "an unknown call"
 WRONG_LINES = [
-    "unknown", "New 1 1", "new", "new 1", "new 1 1 1", "new 1 18446744073709551616", "new 1 -1", "new +1 1", "new 1 0x1", "new 1 1.",
-    "new 1 99999999999999999999999999", "new\t1 1", "new 1 1\r", "new 1\t1", "settings", "settings 1", "settings 1 2 3", "fresh",
-    "fresh 1 2", "fresh ten", "fresh -", "nonzero 1", "image 1 2", "image ,", "image 1,", "image ,1", "image 1,,2", "image 1,x",
-    "image 18446744073709551616", "image -1", "image --", "image -,1", "load", "load a b", "save", "save a b", "load missing", "save missing/pool",
-    "advance 10 10000 0 1", "advance 10 10000 0 1 - -", "advance 10 10000 0 1 0", "advance 10 10000 0 1 0g", "advance 10 10000 0 1 --",
-    "advance 10 10000 0 18446744073709551616 -", "advance x 10000 0 1 -", "forecast 10 10000 0 1", "forecast 10 10000 0 1 020",
-    "forecast 10 10000 0 1 " + "00" * 40_973, "image " + "0," * ROOM + "0", "\x00", "\x7f", "é",
+    ("unknown", CALL), ("New 1 1", CALL), ("new\t1 1", CALL), ("\x00", CALL), ("\x7f", CALL), ("é", CALL), ("show.", CALL), ("sho", CALL),
+    (ITEM, "a field too long"),
+    ("new", "new P: a field too few"), ("new 1", "new E: a field too few"), ("new 1 1 1", "new: a field too many"),
+    ("new 18446744073709551616 1", "new P: a number too large"), ("new 1 18446744073709551616", "new E: a number too large"),
+    ("new 1 99999999999999999999999999", "new E: a number too large"), ("new 1 -1", "new E: not a number"), ("new +1 1", "new P: not a number"),
+    ("new 1 0x1", "new E: not a number"), ("new 1 1.", "new E: not a number"), ("new 1 1\r", "new E: not a number"),
+    ("new 1\t1", "new P: not a number"), ("new x y", "new P: not a number"), ("new " + ITEM, "new P: a field too long"),
+    ("settings", "settings SECONDS: a field too few"), ("settings 1", "settings UNLOCKING: a field too few"),
+    ("settings x 2", "settings SECONDS: not a number"), ("settings 1 x", "settings UNLOCKING: not a number"), ("settings 1 2 3", "settings: a field too many"),
+    ("fresh", "fresh EPOCH: a field too few"), ("fresh 1 2", "fresh: a field too many"), ("fresh ten", "fresh EPOCH: not a number"),
+    ("fresh -", "fresh EPOCH: not a number"), ("nonzero 1", "nonzero: a field too many"), ("show 1", "show: a field too many"),
+    ("show show", "show: a field too many"), ("image 1 2", "image: a field too many"),
+    *((f"image {words}", "image WORDS: not a number") for words in (",", "1,", ",1", "1,,2", "1,x", "-1", "--", "-,1")),
+    ("image 18446744073709551616", "image WORDS: a number too large"), ("image 1," + ITEM, "image WORDS: a field too long"),
+    ("image " + "0," * ROOM + "0", "image WORDS: too many words"),
+    ("load", "load PATH: a field too few"), ("load a b", "load: a field too many"), ("load missing", "load PATH: the file can't be read"),
+    ("load " + "a" * 40_973, "load PATH: a path too long"), ("save", "save PATH: a field too few"), ("save a b", "save: a field too many"),
+    ("save missing/pool", "save PATH: the file can't be written"), ("save " + "a" * 40_973, "save PATH: a path too long"),
+    ("advance", "advance NOW: a field too few"), ("advance 10", "advance Y: a field too few"), ("advance 10 10000", "advance CUSTODY: a field too few"),
+    ("advance 10 10000 0", "advance VERIFIED: a field too few"), ("advance 10 10000 0 1", "advance CAPS: a field too few"),
+    ("advance 10 10000 0 1 - -", "advance: a field too many"), ("advance x 10000 0 1 -", "advance NOW: not a number"),
+    ("advance 10 18446744073709551616 0 1 -", "advance Y: a number too large"), ("advance 10 10000 -1 1 -", "advance CUSTODY: not a number"),
+    ("advance 10 10000 0 18446744073709551616 -", "advance VERIFIED: a number too large"),
+    *((f"advance 10 10000 0 1 {caps}", "advance CAPS: not a message") for caps in ("0", "0g", "--")),
+    ("advance 10 10000 0 1 " + ITEM, "advance CAPS: a field too long"), ("forecast 10 10000 0 1", "forecast CAPS: a field too few"),
+    ("forecast 10 x 0 1 -", "forecast Y: not a number"), ("forecast 10 10000 0 1 020", "forecast CAPS: not a message"),
+    ("forecast 10 10000 0 1 " + "00" * 40_973, "forecast CAPS: a message too long"),
 ]
 
 # A payment with one field wrong, missing or too many.
-FIELDS = payment(stake(1)).split()
-WRONG_LINES += [" ".join(FIELDS[:at] + [field] + FIELDS[at + 1:]) for at, field in (
-    (1, "x"), (1, "none"), (2, "none"), (2, A.hex()[1:]), (2, A.hex() + "0"), (2, "g" + A.hex()[1:]), (2, "1"), (3, "none"), (3, "-"), (4, "-1"),
-    (5, "18446744073709551616"), (6, "None"), (6, "-"), (6, STAKE.hex()[2:]), (7, "none"), (7, "18446744073709551616"), (8, "none"),
-    (8, "2,"), (8, "2,,1"), (8, ",".join(["0"] * 2_314)), (8, "- -"))]
-WRONG_LINES += ["payment", " ".join(FIELDS[:-1])]
+PAID = payment(stake(1))
+WRONG_LINES += [(with_field(PAID, at, field), named(PAID, at, what)) for at, field, what in (
+    (1, "x", NUMBER), (1, "none", NUMBER), (2, "none", KEY), (2, A.hex()[1:], KEY), (2, A.hex() + "0", KEY), (2, "g" + A.hex()[1:], KEY), (2, "1", KEY),
+    (3, "none", KEY), (3, "-", KEY), (4, "-1", NUMBER), (5, "18446744073709551616", LARGE), (6, "None", KEY), (6, "-", KEY), (6, STAKE.hex()[2:], KEY),
+    (7, "none", NUMBER), (7, "18446744073709551616", LARGE), (8, "none", NUMBER), (8, "2,", NUMBER), (8, "2,,1", NUMBER),
+    (8, "2,18446744073709551616", LARGE), (8, ",".join(["0"] * 2_314), "too many words"))]
+WRONG_LINES += [(" ".join(PAID.split()[:at]), named(PAID, at, FEW)) for at in range(1, 9)] + [(with_field(PAID, 8, "- -"), f"payment: {MANY}")]
 
 CASES = [
     # spaces, comments, leading zeros, digits in either case; no newline at the end
@@ -83,12 +130,11 @@ CASES = [
          ["ok 29", "ok 3", "refused 1", f"ok 1 2 {model.WORD - 1}", "ok 3", "ok 0", "ok"],
          {"three": little_endian([1, 2, model.WORD - 1]), "none": b""}, {"four": little_endian([1, 2, model.WORD - 1])}),
     Case("load full\nnonzero\n", [f"ok {ROOM}", f"ok {ROOM - 1}:5"], {"full": little_endian([0] * (ROOM - 1) + [5])}),
-    Case("new 1 1\nload long\nnonzero\n", ["ok 29", "line 2:"], {"long": bytes(8 * ROOM + 8)}),
-    Case("new 1 1\nload bytes\nnonzero\n", ["ok 29", "line 2:"], {"bytes": bytes(8 * 29 - 1)}),
+    Case("new 1 1\nload long\nnonzero\n", ["ok 29", "line 2: load PATH: the file is too long"], {"long": bytes(8 * ROOM + 8)}),
+    Case("new 1 1\nload bytes\nnonzero\n", ["ok 29", "line 2: load PATH: the file is not whole words"], {"bytes": bytes(8 * 29 - 1)}),
     # a run that ends with a wrong line leaves the files as they are
-    Case("new 1 1\nsave pool\nfresh 10\nwrong\nsave pool\n", ["ok 29", "ok 29", "ok", "line 4:"], {}, {"pool": bytes(8 * 29)}),
-] + [wrong(line) for line in WRONG_LINES]
-
+    Case("new 1 1\nsave pool\nfresh 10\nwrong\nsave pool\n", ["ok 29", "ok 29", "ok", "line 4: an unknown call"], {}, {"pool": bytes(8 * 29)}),
+] + [wrong(*both) for both in WRONG_LINES]
 
 
 # Payments. Unless a case says otherwise: P 1, E 4, last epoch and now 10, events of epochs 9, 8, 7, 6, claimable M; y 10,000, self ratio M,
@@ -98,7 +144,7 @@ def paying(says, *steps, settings=(604_800, 1), p=1, e=4, listed=False):
     """A step is an image's words, or a line and its answer."""
     lines, answers = [f"settings {settings[0]} {settings[1]}", f"new {p} {e}"], ["ok", f"ok {model.length(p, e)}"]
     for step in steps:
-        line, answer = step if isinstance(step, tuple) else ("image " + ",".join(map(str, step)), f"ok {len(step)}")
+        line, answer = step if isinstance(step, tuple) else ("image " + (",".join(map(str, step)) or "-"), f"ok {len(step)}")
         lines.append(line)
         answers.append(answer)
     return Case("\n".join(lines) + "\n", answers, says=says, listed=listed)
@@ -106,7 +152,7 @@ def paying(says, *steps, settings=(604_800, 1), p=1, e=4, listed=False):
 
 ONE = stake(1_000_000)
 VOTING, EMPTY = stake(1_000_000, kind=1), stake(1_000_000, kind=0)
-FEW = (9, 10_000, [(M, 100, 200_000)])      # an event with a rate of 1 on the other side: 2^64 - 1 earns 14,757,395,258,968 and 3,689,348,814,741
+SMALL = (9, 10_000, [(M, 100, 200_000)])      # an event with a rate of 1 on the other side: 2^64 - 1 earns 14,757,395,258,968 and 3,689,348,814,741
 WHOLE = WORD - 1
 
 
@@ -238,14 +284,14 @@ REFUSED = [
            pool(keys=[]), (payment(publisher=ZERO_KEY), "refused 10"), (payment(), "refused 11"),
            pool(keys=[last_byte(ZERO_KEY)]), (payment(publisher=last_byte(ZERO_KEY)), "ok 0 0 10 3 0")),
     paying("12", pool(), (payment(now=9), "refused 12"), (payment(now=11), "refused 12"), (payment(now=10), "ok 0 0 10 3 0")),
-    paying("13: a slot's amount", pool([FEW], claimable=WHOLE),
+    paying("13: a slot's amount", pool([SMALL], claimable=WHOLE),
            (payment(stake(WHOLE)), "ok 14757395258968 3689348814741 10 3 1"),
            (payment(stake(WHOLE - 1), stake(1)), "ok 14757395258968 3689348814741 10 3 2"),
            (payment(stake(WHOLE), stake(1)), "refused 13"),
            (payment(stake(HALF), stake(HALF)), "refused 13"),
            (payment(stake(WHOLE), stake(1, 10)), "ok 14757395258968 3689348814741 10 3 2"),
            (payment(stake(WHOLE), stake(0), stake(1, kind=1)), "ok 14757395258968 3689348814741 10 3 2"),
-           pool([FEW, (8,) + FEW[1:]], claimable=WHOLE),
+           pool([SMALL, (8,) + SMALL[1:]], claimable=WHOLE),
            (payment(stake(WHOLE, 9), stake(WHOLE, 0, 9)), "ok 29514790517936 7378697629482 10 3 4"),
            (payment(stake(WHOLE, 9), stake(WHOLE, 0, 10)), "refused 13")),
     paying("13: a start whose end doesn't fit, once activated", pool(),
@@ -313,16 +359,16 @@ REFUSED = [
            (payment(stake(200)), "refused 16"),
            (payment(stake(199)), "ok 0 0 10 3 1")),
     paying("in document 01's order: all faults at once, mended one by one",
-           pool([FEW], claimable=0)[:-1],
+           pool([SMALL], claimable=0)[:-1],
            (payment(words=[3], publisher=ZERO_KEY, now=9, other=None, flag=0), "refused 1"),
-           pool([FEW], claimable=0),
+           pool([SMALL], claimable=0),
            (payment(words=[3], publisher=ZERO_KEY, now=9, other=None, flag=0), "refused 4"),
            (payment(stake(WHOLE), ONE, publisher=ZERO_KEY, now=9, other=None, flag=0), "refused 10"),
            (payment(stake(WHOLE), ONE, publisher=B, now=9, other=None, flag=0), "refused 11"),
            (payment(stake(WHOLE), ONE, now=9, other=None, flag=0), "refused 12"),
            (payment(stake(WHOLE), ONE, other=B, flag=0), "refused 13"),
            (payment(ONE, other=B, flag=0), "refused 16"),
-           pool([FEW], claimable=1),
+           pool([SMALL], claimable=1),
            (payment(ONE, other=B, flag=0), "refused 17"),
            (payment(ONE, flag=0), "refused 18"),
            ("nonzero", f"ok 0:10 1:1 2:1 10:7 14:9 15:10000 23:{M} 24:100 25:200000 62:1"),

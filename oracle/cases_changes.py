@@ -5,7 +5,7 @@ Unless a case says otherwise: P 2, E 1, last epoch and now 10, key A on the firs
 the other side.
 """
 from by_hand import A, ACCOUNT, B, C, STAKE, add, create, fee, last_byte, remove, seats, slash, stake, stake_account
-from cases import Case, paying, wrong
+from cases import FEW, KEY, LARGE, MANY, NUMBER, Case, named, paying, with_field, wrong
 from model import HALF, M, WORD, ZERO_KEY
 from operations import STATES
 
@@ -196,20 +196,35 @@ REFUSED = [
 CHANGES = SENTENCES + REFUSED
 
 # Lines with a field wrong, and with one too few or too many.
-KEY, LARGE = A.hex(), str(WORD)
+DIGITS, PAST, STATE, LISTED = A.hex(), str(WORD), "not a state", ",".join(map(str, ONE))
+ROOM, UNOWNED, ABSENT = ",".join(["0"] * 2_314), "an account without its owner", "no account, but its fields"
 WRONG = {
-    add(5): [(1, "x"), (1, LARGE), (2, "none"), (2, KEY[1:]), (3, "none"), (3, KEY + "0"), (4, "-1"), (4, LARGE), (4, "LOCKED")],
-    remove(5): [(1, "-"), (2, "g" + KEY[1:]), (3, "-"), (4, LARGE), (5, "locked"), (5, "LOCKE"), (5, "LOCKEDX"), (5, "1"), (5, "-"), (5, "none"), (5, "WITHDRAWN")],
-    create(0): [(1, LARGE), (2, "none"), (2, KEY[2:]), (3, "x"), (3, "-")],
-    slash(4, 2): [(1, "x"), (2, "none"), (3, KEY[:-1]), (4, LARGE), (5, "-1"), (6, ""), (7, "x"), (8, LARGE), (9, "1.")],
-    fee(5): [(1, LARGE), (1, "-"), (1, "0x1")],
-    by_owner(new_words=ONE): [(1, "none"), (2, "none"), (3, "none"), (3, "-"), (4, "None"), (4, KEY[1:]), (5, "none"), (5, "-"), (6, "none"),
-                              (6, "2,"), (6, ",".join(["0"] * 2_314)), (7, "x"), (8, "none"), (8, "1,,2"), (8, ",".join(["0"] * 2_314)), (4, "none"), (7, "none")],
-    stake_account(None): [(5, KEY), (6, "0"), (6, ",".join(map(str, ONE))), (8, "0"), (8, ",".join(map(str, ONE)))],
+    add(5): [(1, "x", NUMBER), (1, PAST, LARGE), (2, "none", KEY), (2, DIGITS[1:], KEY), (3, "none", KEY), (3, DIGITS + "0", KEY), (4, "-1", NUMBER),
+             (4, PAST, LARGE), (4, "LOCKED", NUMBER)],
+    remove(5): [(1, "-", NUMBER), (2, "g" + DIGITS[1:], KEY), (3, "-", KEY), (4, PAST, LARGE),
+                *((5, state, STATE) for state in ("locked", "LOCKE", "LOCKEDX", "1", "-", "none", "WITHDRAWN"))],
+    create(0): [(1, PAST, LARGE), (2, "none", KEY), (2, DIGITS[2:], KEY), (3, "x", NUMBER), (3, "-", NUMBER)],
+    slash(4, 2): [(1, "x", NUMBER), (2, "none", KEY), (3, DIGITS[:-1], KEY), (4, PAST, LARGE), (5, "-1", NUMBER), (6, "none", NUMBER), (7, "x", NUMBER),
+                  (8, PAST, LARGE), (9, "1.", NUMBER)],
+    fee(5): [(1, PAST, LARGE), (1, "-", NUMBER), (1, "0x1", NUMBER)],
+    by_owner(new_words=ONE): [(1, "none", KEY), (2, "none", KEY), (3, "none", KEY), (3, "-", KEY), (4, "None", KEY), (4, DIGITS[1:], KEY), (5, "-", KEY),
+                              (6, "none", NUMBER), (6, "2,", NUMBER), (6, ROOM, "too many words"), (7, "x", KEY), (8, "none", NUMBER),
+                              (8, "1,,2", NUMBER), (8, ROOM, "too many words"), (5, "none", UNOWNED)],
+    stake_account(None): [(5, DIGITS, ABSENT), (6, "0", ABSENT), (6, LISTED, ABSENT), (8, "0", ABSENT), (8, LISTED, ABSENT)],
 }
-WRONG_LINES = [" ".join(f for f in line.split()[:at] + [field] + line.split()[at + 1:] if f) for line, faults in WRONG.items() for at, field in faults]
-WRONG_LINES += [other for line in WRONG for other in (line.split()[0], line.rsplit(" ", 1)[0], line + " 0", line + " -")]
-WRONG_LINES += ["create 10 " + KEY + " 0", "Add" + add(5)[3:], "stake_account" + by_owner()[13:], "slash-event 1", "fees 5"]
+WRONG_LINES = [(with_field(line, at, field), named(line, at, what)) for line, faults in WRONG.items() for at, field, what in faults]
+WRONG_LINES += [(" ".join(line.split()[:at]), named(line, at, FEW)) for line in WRONG for at in range(1, len(line.split()))]
+WRONG_LINES += [(f"{line} {more}", f"{line.split()[0]}: {MANY}") for line in WRONG for more in "0-"]
+WRONG_LINES += [
+    # the account is absent, its owner is not, whatever its positions
+    (with_field(by_owner(), 4, "none"), f"stake-account OLD_OWNER: {ABSENT}"), (with_field(by_owner(old_words=ONE), 4, "none"), f"stake-account OLD_OWNER: {ABSENT}"),
+    (with_field(by_owner(old_words=ONE), 5, "none"), f"stake-account OLD_OWNER: {UNOWNED}"),
+    (with_field(by_owner(new_words=ONE), 7, "none"), f"stake-account NEW_POSITIONS: {ABSENT}"),
+    # both accounts are wrong: the old one is named
+    (with_field(with_field(stake_account(None), 6, "0"), 8, "0"), f"stake-account OLD_POSITIONS: {ABSENT}"),
+    *((line, "an unknown call") for line in (
+        "create 10 " + DIGITS + " 0", "Add" + add(5)[3:], "stake_account" + by_owner()[13:], "slash-event 1", "fees 5")),
+]
 
 CASES = [
     # before the first `new`
@@ -218,4 +233,4 @@ CASES = [
     Case(f"new 1 1\nfresh 10\n{by_owner(old_words=[0] * 2_313)}\n{by_owner(new_words=[0] * 2_304)}\n", ["ok 29", "ok", "refused 4", "refused 11"]),
     Case("new 1 1\nimage " + ",".join(map(str, seats(keys=[b"\xab" * 32], p=1))) + "\n  add   010  " + "aB" * 32 + " " + ACCOUNT.hex() + "   0005  \nnonzero\n",
          ["ok 29", "ok 29", "ok", leaves(seats(keys=[b"\xab" * 32], other=[(0, 5)], p=1))[1]]),
-] + [wrong(line) for line in WRONG_LINES]
+] + [wrong(*both) for both in WRONG_LINES]

@@ -168,6 +168,8 @@ class Check:
         """Raises Wrong where a clause doesn't hold."""
         name, *fields = text.split()
         answer = answer.split()
+        if name == "show":
+            return
         if name == "new":
             self.size = tuple(map(int, fields))
         elif name == "settings":

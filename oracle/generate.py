@@ -63,6 +63,7 @@ class Generator:
     def __init__(self, journal, seed, p, e, seconds, unlocking):
         self.journal, self.site = journal, journal.site
         self.r = random.Random(f"{seed} {p} {e} {seconds} {unlocking}")
+        self.tables = random.Random(f"{seed} {p} {e} {seconds} {unlocking} show")
         self.p, self.e, self.seconds, self.unlocking = p, e, seconds, unlocking
         self.most_now = (HALF - 1) // seconds if seconds else HALF - 1
         self.keys = keys(self.r, p + 4)
@@ -89,6 +90,8 @@ class Generator:
         if large and self.r.random() < .7:
             return
         self.journal.say("image" if not large and self.r.random() < .1 else "nonzero")
+        if self.tables.random() < (.005 if large else .04):
+            self.journal.say("show")
 
     # Numbers.
 

@@ -1,5 +1,7 @@
 """A journal as it is written: every line with the model's answer and with who decides the expected one."""
+import itertools
 import os
+import re
 import subprocess
 from typing import NamedTuple, Optional
 
@@ -14,6 +16,7 @@ RUST = "the Rust"
 OUTSIDE = "the model: outside"      # the oracle must answer `outside`
 LISTED = "the model: listed"        # a difference that docs/DIFFERENCES.md lists; the oracle must answer as the model says the Rust does
 APART = "the model: behind those"   # the image after one of the two, before both have the same again
+WRONG = "the journal's forms"       # a wrong line; the oracle's wording is its own behind the colon
 
 # The calls that can be refused, and the level that each came with.
 CALLS = {"fresh": "watch", "advance": "watch", "forecast": "watch", "payment": "pay", **dict.fromkeys(operations.NAMES, "operate")}
@@ -40,6 +43,8 @@ class Journal:
         self.lines.append(Line("# " + text, None, None, None))
 
     def decides(self, name, answer):
+        if name == "show":
+            return OUTSIDE
         if name in CALLS and answer in ("refused 1", "refused 3", "refused 4", "refused 5"):
             return OUTSIDE
         if (answer == "refused 2" and name != "fresh") or self.site.passed > MOST_EPOCHS:
@@ -68,6 +73,11 @@ class Journal:
             self.apart |= answer.startswith("ok") or wanted.startswith("ok")
         return answer
 
+    def wrong(self, text, what):
+        """The last line: one that ends the run."""
+        told = f"line {len(self.lines) + 1}: {what}"
+        self.lines.append(Line(text, told, WRONG, told))
+
     def put(self, words):
         return self.say("image " + (",".join(map(str, words)) or "-"))
 
@@ -78,15 +88,25 @@ class Journal:
         return [line for line in self.lines if line.answer is not None]
 
 
+def answers(text, written):
+    """The lines that a program wrote when given a text, those of one answer as one: `ok N` to `show` has N lines more."""
+    names = (line.split()[0] for line in text.split("\n") if line.strip(" ") and not line.lstrip(" ").startswith("#"))
+    written, found = iter(written), []
+    for line in written:
+        table = next(names, None) == "show" and re.fullmatch("ok ([0-9]+)", line)
+        found.append("\n".join([line, *itertools.islice(written, int(table[1]) if table else 0)]))
+    return found
+
+
 def run(command, text, folder):
-    """The lines that a program writes when given a text."""
+    """The answers that a program writes when given a text."""
     given, got = (os.path.join(folder, n) for n in ("given", "got"))
     with open(given, "w") as f:
         f.write(text)
     with open(given) as f, open(got, "w") as g:
         subprocess.run(command, stdin=f, stdout=g, cwd=folder)
     with open(got) as f:
-        return f.read().splitlines()
+        return answers(text, f.read().splitlines())
 
 
 def oracle(text, folder):
@@ -95,6 +115,8 @@ def oracle(text, folder):
 
 def agrees(line, rust):
     """Whether the oracle answers what it must."""
+    if line.decides == WRONG:
+        return rust.split(":")[0] == line.rust.split(":")[0]
     return line.rust in (None, rust)
 
 

@@ -9,6 +9,7 @@ import copy
 from typing import NamedTuple, Optional
 
 import operations
+import show
 from image import (HALF, M, MOST_POSITIONS, WORD, ZERO_KEY, Listed, Pool, Refused, in_range, length, numbers_of, positions_of, refuse,
                    words_of)
 
@@ -323,6 +324,8 @@ class Site:
             return self.change(name, operations.given(name, fields))
         if name == "nonzero":
             return [f"{i}:{w}" for i, w in enumerate(self.words) if w]
+        if name == "show":
+            return [show.answer(self.pool().checked())]
         if name == "image" and fields:
             return self.image(numbers_of(fields[0]))
         if name == "image":

@@ -99,6 +99,8 @@ fn answer(site: &mut Site, line: &[u8]) -> Result<Option<Answer>, End> {
         b"settings" => two_numbers(&mut f).map(|(s, u)| site.settings(s, u))?,
         b"image" => image(site, &mut f)?,
         b"nonzero" => f.end().map(|()| site.nonzero())?,
+        // Nothing of the Rust says how a pool is shown.
+        b"show" => f.end().map(|()| Answer::Outside(None))?,
         b"load" => path(&mut f).and_then(|p| site.load(p))?,
         b"save" => path(&mut f).and_then(|p| site.save(p))?,
         _ => question(site, name, &mut f)?,
