@@ -64,7 +64,7 @@ FIELDS = {
 FEW, MANY, NUMBER, LARGE, KEY = "a field too few", "a field too many", "not a number", "a number too large", "not a key"
 
 
-ITEM = "0" * 131_073        # an item longer than the program's buffer
+ITEM = "x" * 131_073        # an item longer than the program's buffer
 CALL = "an unknown call"
 WRONG_LINES = [
     ("unknown", CALL), ("New 1 1", CALL), ("new\t1 1", CALL), ("\x00", CALL), ("\x7f", CALL), ("é", CALL), ("show.", CALL), ("sho", CALL),
