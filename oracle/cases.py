@@ -52,6 +52,12 @@ def with_field(line, at, field):
     return " ".join(fields[:at] + [field] + fields[at + 1:])
 
 
+def cut_or_longer(lines):
+    """Lines that end before each of their fields, and lines with one more; each with what is said of it."""
+    cut = [(" ".join(line.split()[:at]), named(line, at, FEW)) for line in lines for at in range(1, len(line.split()))]
+    return cut + [(f"{line} {more}", f"{line.split()[0]}: {MANY}") for line in lines for more in "0-"]
+
+
 # The fields' names, as the README's table has them.
 FIELDS = {
     "new": "P E", "settings": "SECONDS UNLOCKING", "image": "WORDS", "nonzero": "", "load": "PATH", "save": "PATH", "fresh": "EPOCH",
@@ -69,41 +75,38 @@ CALL = "an unknown call"
 WRONG_LINES = [
     ("unknown", CALL), ("New 1 1", CALL), ("new\t1 1", CALL), ("\x00", CALL), ("\x7f", CALL), ("é", CALL), ("show.", CALL), ("sho", CALL),
     (ITEM, "a field too long"),
-    ("new", "new P: a field too few"), ("new 1", "new E: a field too few"), ("new 1 1 1", "new: a field too many"),
     ("new 18446744073709551616 1", "new P: a number too large"), ("new 1 18446744073709551616", "new E: a number too large"),
     ("new 1 99999999999999999999999999", "new E: a number too large"), ("new 1 -1", "new E: not a number"), ("new +1 1", "new P: not a number"),
     ("new 1 0x1", "new E: not a number"), ("new 1 1.", "new E: not a number"), ("new 1 1\r", "new E: not a number"),
     ("new 1\t1", "new P: not a number"), ("new x y", "new P: not a number"), ("new " + ITEM, "new P: a field too long"),
-    ("settings", "settings SECONDS: a field too few"), ("settings 1", "settings UNLOCKING: a field too few"),
-    ("settings x 2", "settings SECONDS: not a number"), ("settings 1 x", "settings UNLOCKING: not a number"), ("settings 1 2 3", "settings: a field too many"),
-    ("fresh", "fresh EPOCH: a field too few"), ("fresh 1 2", "fresh: a field too many"), ("fresh ten", "fresh EPOCH: not a number"),
-    ("fresh -", "fresh EPOCH: not a number"), ("nonzero 1", "nonzero: a field too many"), ("show 1", "show: a field too many"),
-    ("show show", "show: a field too many"), ("image 1 2", "image: a field too many"),
+    ("settings x 2", "settings SECONDS: not a number"), ("settings 1 x", "settings UNLOCKING: not a number"),
+    ("fresh ten", "fresh EPOCH: not a number"), ("fresh -", "fresh EPOCH: not a number"), ("nonzero 1", "nonzero: a field too many"),
+    ("show 1", "show: a field too many"), ("show show", "show: a field too many"), ("image 1 2", "image: a field too many"),
     *((f"image {words}", "image WORDS: not a number") for words in (",", "1,", ",1", "1,,2", "1,x", "-1", "--", "-,1")),
     ("image 18446744073709551616", "image WORDS: a number too large"), ("image 1," + ITEM, "image WORDS: a field too long"),
     ("image " + "0," * ROOM + "0", "image WORDS: too many words"),
-    ("load", "load PATH: a field too few"), ("load a b", "load: a field too many"), ("load missing", "load PATH: the file can't be read"),
-    ("load " + "a" * 40_973, "load PATH: a path too long"), ("save", "save PATH: a field too few"), ("save a b", "save: a field too many"),
+    ("load missing", "load PATH: the file can't be read"), ("load " + "a" * 40_973, "load PATH: a path too long"),
     ("save missing/pool", "save PATH: the file can't be written"), ("save " + "a" * 40_973, "save PATH: a path too long"),
-    ("advance", "advance NOW: a field too few"), ("advance 10", "advance Y: a field too few"), ("advance 10 10000", "advance CUSTODY: a field too few"),
-    ("advance 10 10000 0", "advance VERIFIED: a field too few"), ("advance 10 10000 0 1", "advance CAPS: a field too few"),
-    ("advance 10 10000 0 1 - -", "advance: a field too many"), ("advance x 10000 0 1 -", "advance NOW: not a number"),
+    ("advance x 10000 0 1 -", "advance NOW: not a number"),
     ("advance 10 18446744073709551616 0 1 -", "advance Y: a number too large"), ("advance 10 10000 -1 1 -", "advance CUSTODY: not a number"),
     ("advance 10 10000 0 18446744073709551616 -", "advance VERIFIED: a number too large"),
     *((f"advance 10 10000 0 1 {caps}", "advance CAPS: not a message") for caps in ("0", "0g", "--")),
-    ("advance 10 10000 0 1 " + ITEM, "advance CAPS: a field too long"), ("forecast 10 10000 0 1", "forecast CAPS: a field too few"),
+    ("advance 10 10000 0 1 " + ITEM, "advance CAPS: a field too long"),
     ("forecast 10 x 0 1 -", "forecast Y: not a number"), ("forecast 10 10000 0 1 020", "forecast CAPS: not a message"),
     ("forecast 10 10000 0 1 " + "00" * 40_973, "forecast CAPS: a message too long"),
 ]
 
-# A payment with one field wrong, missing or too many.
+# A payment with one field wrong.
 PAID = payment(stake(1))
 WRONG_LINES += [(with_field(PAID, at, field), named(PAID, at, what)) for at, field, what in (
     (1, "x", NUMBER), (1, "none", NUMBER), (2, "none", KEY), (2, A.hex()[1:], KEY), (2, A.hex() + "0", KEY), (2, "g" + A.hex()[1:], KEY), (2, "1", KEY),
     (3, "none", KEY), (3, "-", KEY), (4, "-1", NUMBER), (5, "18446744073709551616", LARGE), (6, "None", KEY), (6, "-", KEY), (6, STAKE.hex()[2:], KEY),
     (7, "none", NUMBER), (7, "18446744073709551616", LARGE), (8, "none", NUMBER), (8, "2,", NUMBER), (8, "2,,1", NUMBER),
     (8, "2,18446744073709551616", LARGE), (8, ",".join(["0"] * 2_314), "too many words"))]
-WRONG_LINES += [(" ".join(PAID.split()[:at]), named(PAID, at, FEW)) for at in range(1, 9)] + [(with_field(PAID, 8, "- -"), f"payment: {MANY}")]
+
+# Fields missing from each place on, and one too many.
+WHOLE_LINES = ["new 1 1", "settings 1 2", "load a", "save a", "fresh 1", "advance 10 10000 0 1 -", "forecast 10 10000 0 1 -", PAID]
+WRONG_LINES += cut_or_longer(WHOLE_LINES)
 
 CASES = [
     # spaces, comments, leading zeros, digits in either case; no newline at the end

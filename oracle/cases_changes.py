@@ -5,7 +5,7 @@ Unless a case says otherwise: P 2, E 1, last epoch and now 10, key A on the firs
 the other side.
 """
 from by_hand import A, ACCOUNT, B, C, STAKE, add, create, fee, last_byte, remove, seats, slash, stake, stake_account
-from cases import FEW, KEY, LARGE, MANY, NUMBER, Case, named, paying, with_field, wrong
+from cases import KEY, LARGE, NUMBER, Case, cut_or_longer, named, paying, with_field, wrong
 from model import HALF, M, WORD, ZERO_KEY
 from operations import STATES
 
@@ -213,8 +213,7 @@ WRONG = {
     stake_account(None): [(5, DIGITS, ABSENT), (6, "0", ABSENT), (6, LISTED, ABSENT), (8, "0", ABSENT), (8, LISTED, ABSENT)],
 }
 WRONG_LINES = [(with_field(line, at, field), named(line, at, what)) for line, faults in WRONG.items() for at, field, what in faults]
-WRONG_LINES += [(" ".join(line.split()[:at]), named(line, at, FEW)) for line in WRONG for at in range(1, len(line.split()))]
-WRONG_LINES += [(f"{line} {more}", f"{line.split()[0]}: {MANY}") for line in WRONG for more in "0-"]
+WRONG_LINES += cut_or_longer(WRONG)
 WRONG_LINES += [
     # the account is absent, its owner is not, whatever its positions
     (with_field(by_owner(), 4, "none"), f"stake-account OLD_OWNER: {ABSENT}"), (with_field(by_owner(old_words=ONE), 4, "none"), f"stake-account OLD_OWNER: {ABSENT}"),

@@ -90,7 +90,7 @@ class Generator:
         if large and self.r.random() < .7:
             return
         self.journal.say("image" if not large and self.r.random() < .1 else "nonzero")
-        if self.tables.random() < (.005 if large else .04):
+        if self.tables.random() < (.02 if large else .04):
             self.journal.say("show")
 
     # Numbers.

@@ -161,8 +161,8 @@ fn wrong_account_field(args: [u64; 50], old: usize) -> usize
     if owner != 0 {
         return 5;
     }
-    let positions = wrong_account(args[3], args[4], old);
-    if positions != 0 {
+    let whole = wrong_account(args[3], args[4], old);
+    if whole != 0 {
         return 6;
     }
     8

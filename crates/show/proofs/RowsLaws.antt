@@ -6,7 +6,7 @@ use Prim.Native.Nat.{ℕ, _+_, _≤_}
 use native.Mathlib.Numerals.{add-one}
 use native.Mathlib.Omega.{arith}
 use lib.ListN.{getD}
-use Rattle.types.specs.Base.{toNat, countBelow}
+use Rattle.types.specs.Base.{toNat}
 use Rattle.types.proofs.Below.{count-none, count-more}
 use Rattle.positions.specs.declared.Key.{Key}
 use Rattle.positions.specs.Key.{sameKey}

@@ -6,7 +6,6 @@ ghost use lib.Dec.{leb};
 ghost use Rattle.io.specs.Digits.{glyph};
 ghost use Rattle.types.specs.Base.{half};
 ghost use Rattle.journal.specs.Held.{Writable};
-ghost use Rattle.image.specs.Seats.{zeroKey};
 ghost use Rattle.show.specs.Cells.{DigitsIn, magnitudeOf, fourBytes, shortKey};
 use journal::output;
 use journal::output::Pen;

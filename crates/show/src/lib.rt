@@ -14,7 +14,7 @@
 // an event 20 each, all to the right; a longer number moves the rest of its line. A key is its first four bytes and its last four, the zero
 // key `none`. Shown are the seats that have a publisher, those behind an empty one too, and the newest events, the newest first.
 ghost use mathlib.Core.Path.{_≡_};
-ghost use Prim.Native.Nat.{_≤_, _<_};
+ghost use Prim.Native.Nat.{_≤_};
 ghost use lib.ListN.{length};
 ghost use Rattle.image.specs.Seats.{Sized};
 ghost use Rattle.journal.specs.Held.{Writable};
