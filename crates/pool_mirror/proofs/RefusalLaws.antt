@@ -2,7 +2,8 @@
 use mathlib.Core.Path.{_≡_, refl, sym, ap, _∙_, subst}
 use mathlib.Core.Bool.{Bool, true, false, not, _&&_, _||_}
 use mathlib.Core.List.{List}
-use Prim.Native.Nat.{ℕ, _+_, _/_}
+use Prim.Native.Nat.{ℕ, _+_, _/_, _<_}
+use native.Mathlib.Omega.{arith}
 use lib.Dec.{eqb, ltb, leb}
 use Rattle.types.specs.Base.{M, word, half, if_then_else_, Outcome, refused, accepted, mapOutcome, andThen, isAccepted, sumBelow, allBelow}
 use Rattle.types.specs.Refusals.{invalidImage, invalidEpoch, invalidPublisherCaps, invalidY, unverifiedPublisherCaps, poolDataAlreadyUpToDate, outdatedPublisherCaps, invalidPublisher, publisherNotFound, outdatedPublisherAccounting, doesNotFit, claimableOverCustody, unexpectedPositionState}
@@ -32,6 +33,8 @@ use Rattle.integrity_pool.specs.declared.stake_account.StakeAccounts.{StakeAcco
 use Rattle.integrity_pool.specs.Calls.{freshCall, checkedThen, advanceCall, forecastCall}
 use Rattle.integrity_pool.specs.Payment.{custodyFall, payOut, paymentAt, paymentOf, paymentCall}
 use Rattle.integrity_pool.specs.Changes.{checkedImageThen, addCall, removeCall, createAt, createSlashEventCall, wrongOrder, slashOrder, slashChange, slashCall, feeCall, accountHolds, firstAccount, laterAccount, mayChange, newAccount, stakeAccountAtSeat, stakeAccountCall}
+use Rattle.pool_mirror.proofs.InputLaws.{is-other}
+use Rattle.pool_mirror.specs.Inputs.{stateOf}
 use Rattle.pool_mirror.specs.Answers.{numberOf}
 use Rattle.pool_mirror.specs.Refusals.{has, Among, freshRefusals, advanceRefusals, paymentRefusals, addRefusals, removeRefusals, createRefusals, slashRefusals, feeRefusals, stakeAccountRefusals}
 
@@ -252,3 +255,53 @@ module _ {A : Type 0} (ks : List ℕ) (none : has ks 0 ≡ false) where
   unfolding Among
   zero-accepted (refused n) p e = sym none ∙ ap (has ks) (sym e) ∙ p
   zero-accepted (accepted a) p e = refl
+
+-- ---- a remove of stake that is UNLOCKING is always refused, and so is one with a number that is no state's
+
+unfoldable Refused : {A : Type 0} → Outcome A → Type 0
+Refused o = isAccepted o ≡ false
+
+number-refused : (A : Type 0) (n : ℕ) → Refused {A = A} (refused n)
+unfolding Refused
+number-refused A n = refl
+
+if-refused : {A : Type 0} (b : Bool) (x y : Outcome A) → Refused x → Refused y → Refused (if b then x else y)
+if-refused true x y p q = p
+if-refused false x y p q = q
+
+then-refused : {A B : Type 0} (o : Outcome A) (f : A → Outcome B) → ((a : A) → Refused (f a)) → Refused (andThen o f)
+unfolding Refused
+then-refused (refused n) f p = refl
+then-refused (accepted a) f p = p a
+
+map-refused : {A B : Type 0} (f : A → B) (o : Outcome A) → Refused o → Refused (mapOutcome f o)
+unfolding Refused
+map-refused f (refused n) p = refl
+map-refused f (accepted a) p = p
+
+unlocking-side : (total change amount : ℕ) → Refused (removeOf total change amount UNLOCKING)
+unfolding removeOf
+unlocking-side total change amount = if-refused (leb half amount) _ _ (number-refused _ _) (number-refused _ _)
+
+module _ (P E : ℕ) (img : List ℕ) (d : Delegation) (amount : ℕ) where
+  unlocking-at : (w : Words) (s : ℕ) → Refused (sideChange w d (λ total change. removeOf total change amount UNLOCKING) s)
+  unfolding sideChange
+  unlocking-at w s = map-refused _ _ (unlocking-side _ _ amount)
+
+  unlocking-never : (w : Words) → Refused (removeDelegation P w d amount UNLOCKING)
+  unfolding removeDelegation
+  unlocking-never w = then-refused (delegationSeat P w d) _ (λ s. unlocking-at w s)
+
+  unlocking-call : Refused (removeCall P E img d amount UNLOCKING)
+  unfolding removeCall checkedImageThen
+  unlocking-call = if-refused (checkedImage P E img) _ _ (unlocking-never (read P E img)) (number-refused Change invalidImage)
+
+  pub unlocking-refused : isAccepted (removeCall P E img d amount UNLOCKING) ≡ false
+  unfolding Refused
+  unlocking-refused = unlocking-call
+
+  pub no-state-refused : (n : ℕ) → 3 < n → isAccepted (removeCall P E img d amount (stateOf n)) ≡ false
+  no-state-refused n up =
+      subst (λ s. isAccepted (removeCall P E img d amount s) ≡ false)
+      (is-other n (λ e. omega (arith, up, e)) (λ e. omega (arith, up, e)) (λ e. omega (arith, up, e)) (λ e. omega (arith, up, e)))
+      unlocking-refused

@@ -6,7 +6,7 @@ use Rattle.advance_plan.specs.Advance.{Advanced}
 use Rattle.integrity_pool.specs.declared.payment.DelegationRecord.{DelegationRecord}
 use Rattle.integrity_pool.specs.Payment.{Payment}
 
--- 0 where a call is accepted, else the refusal's number, which is never 0 (proofs/Refusals)
+-- 0 where a call is accepted, else the refusal's number, which is never 0 (Refusals.antt)
 abbrev pub numberOf : {A : Type 0} → Outcome A → ℕ
 numberOf (refused n) = n
 numberOf (accepted a) = 0

@@ -29,7 +29,7 @@ keyOrNone has words = if eqb has 0 then None else Some (keyOf words)
 unfoldable pub recordOf : List ℕ → DelegationRecord
 recordOf words = record { «last_epoch» = record { 0 = getD words 0 0 }; «next_slash_event_index» = getD words 1 0 }
 
--- the state with this number, by the Rust's order; a number that is no state's counts as UNLOCKING, which a remove always refuses
+-- the state with this number, by the Rust's order; a number that is no state's counts as UNLOCKING, which a remove always refuses (`no-state-refused`)
 unfoldable pub stateOf : ℕ → PositionState
 stateOf n =
     if eqb n 0 then UNLOCKED
