@@ -6,6 +6,8 @@ mod accounts;
 mod cases;
 #[path = "../../oracle/driver/derived.rs"]
 mod derived;
+#[path = "../../oracle/driver/handed.rs"]
+mod handed;
 mod inputs;
 #[allow(dead_code)]
 #[path = "../../oracle/driver/journal.rs"]

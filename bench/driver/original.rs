@@ -1,28 +1,18 @@
 //! The original Rust: runs of its handlers (lib.rs), each handed what the oracle hands it
-//! (oracle/driver/calls.rs). What a handler is handed is made before the time taken.
+//! (oracle/driver/handed.rs). What a handler is handed is made before the time taken.
 use {
     crate::{
-        accounts::{
-            account, caps, context, info, loader, pool_config, positions, program, set_now, signer,
-            slash_event, token,
-        },
+        accounts::{caps, context, positions, set_now},
         derived,
+        handed,
         inputs::{words, words_mut},
         journal::{Advance, Call, Change, Payment, SetStakeAccount, Slash, StakeAccount},
         refusal::{guard, Asked},
         timed::{Run, Start},
     },
     anchor_lang::{given, prelude::Pubkey},
-    integrity_pool::{
-        accounts_door as doors,
-        integrity_pool as handlers,
-        state::delegation_record::DelegationRecord,
-    },
-    staking::state::{
-        global_config::GlobalConfig,
-        positions::PositionState,
-        target::TargetMetadata,
-    },
+    integrity_pool::{integrity_pool as handlers, state::delegation_record::DelegationRecord},
+    staking::state::positions::PositionState,
     std::hint::black_box,
 };
 
@@ -34,14 +24,7 @@ fn plain(nanos: u64) -> Run {
 fn fresh(from: &Start, epoch: u64) -> Asked<Run> {
     set_now(epoch);
     let z = Pubkey::default();
-    let mut a = doors::InitializePool {
-        payer:          signer(&z),
-        config_account: account(&z, GlobalConfig { pyth_token_mint: z }),
-        pool_data:      loader(&z, from.pool),
-        pool_config:    pool_config(&z, 0, z),
-        slash_custody:  token(&z, 0),
-        system_program: program(&z),
-    };
+    let mut a = handed::initialize_pool(from.pool, &z);
     let (_, nanos) = guard(|| {
         from.timed(|_| {
             words_mut(&mut from.pool.borrow_mut()).fill(0);
@@ -58,13 +41,7 @@ fn advance(from: &Start, a: &Advance) -> Asked<Run> {
     let caps = caps(&a.caps, a.verified);
     let rows = derived::rows(&from.pool.borrow(), &caps.borrow());
     let before = from.pool.borrow().claimable_rewards;
-    let mut accounts = doors::Advance {
-        signer:              signer(&z),
-        pool_data:           loader(&z, from.pool),
-        publisher_caps:      loader(&z, &caps),
-        pool_config:         pool_config(&z, a.y, z),
-        pool_reward_custody: token(&z, a.custody),
-    };
+    let mut accounts = handed::advance(from.pool, a, &caps, &z);
     let (_, nanos) = guard(|| from.timed(|_| handlers::advance(context(&mut accounts))))?;
     let p = from.pool.borrow();
     let y = p.get_event((p.num_events - 1) as usize).y;
@@ -88,20 +65,7 @@ fn payment(from: &Start, q: &Payment) -> Asked<Run> {
     let z = Pubkey::default();
     let held = positions(&q.positions, z);
     let before = from.pool.borrow().claimable_rewards;
-    let mut a = doors::AdvanceDelegationRecord {
-        payer: signer(&z),
-        stake_account_positions: loader(&q.account, &held),
-        pool_data: loader(&z, from.pool),
-        pool_config: pool_config(&z, 0, z),
-        pool_reward_custody: token(&z, 0),
-        stake_account_custody: token(&z, 0),
-        publisher: info(&q.publisher),
-        publisher_stake_account_positions: q.publisher_account.as_ref().map(info),
-        publisher_stake_account_custody: (q.custody_flag != 0).then(|| token(&z, 0)),
-        delegation_record: account(&z, q.record.clone()),
-        token_program: program(&z),
-        system_program: program(&z),
-    };
+    let mut a = handed::advance_delegation_record(from.pool, q, &held, &z);
     let (delegator, nanos) = guard(|| {
         from.timed(|_| {
             a.delegation_record.inner.last_epoch = q.record.last_epoch;
@@ -122,18 +86,7 @@ fn payment(from: &Start, q: &Payment) -> Asked<Run> {
 fn add(from: &Start, c: &Change) -> Asked<Run> {
     set_now(c.now);
     let z = Pubkey::default();
-    let mut a = doors::Delegate {
-        owner: signer(&z),
-        pool_data: loader(&z, from.pool),
-        pool_config: pool_config(&z, 0, z),
-        publisher: info(&c.publisher),
-        config_account: info(&z),
-        stake_account_positions: info(&c.account),
-        stake_account_metadata: info(&z),
-        stake_account_custody: info(&z),
-        staking_program: program(&z),
-        system_program: program(&z),
-    };
+    let mut a = handed::delegate(from.pool, c, &z);
     let (_, nanos) = guard(|| {
         from.timed(|_| handlers::delegate(context(&mut a), black_box(c.amount)))
     })?;
@@ -160,16 +113,7 @@ fn create_slash_event(
 ) -> Asked<Run> {
     set_now(now);
     let z = Pubkey::default();
-    let mut a = doors::CreateSlashEvent {
-        payer: signer(&z),
-        reward_program_authority: signer(&z),
-        slash_custody: token(&z, 0),
-        pool_data: loader(&z, from.pool),
-        pool_config: pool_config(&z, 0, z),
-        slash_event: slash_event(&z, 0),
-        publisher: info(publisher),
-        system_program: program(&z),
-    };
+    let mut a = handed::create_slash_event(from.pool, publisher, &z);
     let (_, nanos) = guard(|| {
         from.timed(|j| handlers::create_slash_event(context(&mut a), index + j, 0))
     })?;
@@ -182,23 +126,7 @@ fn slash(from: &Start, s: &Slash) -> Asked<Run> {
     given::SLASHED.with(|g| g.set((s.locked, s.preunlocking)));
     let z = Pubkey::default();
     let held = positions(&[], z);
-    let mut a = doors::Slash {
-        signer: signer(&z),
-        pool_data: loader(&z, from.pool),
-        pool_config: pool_config(&z, 0, z),
-        slash_event: slash_event(&z, s.event_epoch),
-        delegation_record: account(&z, s.record.clone()),
-        publisher: info(&s.publisher),
-        stake_account_positions: loader(&s.account, &held),
-        stake_account_metadata: info(&z),
-        stake_account_custody: token(&z, 0),
-        config_account: info(&z),
-        governance_target_account: account(&z, TargetMetadata),
-        slash_custody: token(&z, 0),
-        custody_authority: info(&z),
-        staking_program: program(&z),
-        token_program: program(&z),
-    };
+    let mut a = handed::slash(from.pool, s, &held, &z);
     let (_, nanos) = guard(|| from.timed(|j| handlers::slash(context(&mut a), s.index + j)))?;
     let DelegationRecord { last_epoch, next_slash_event_index, .. } = a.delegation_record.inner;
     Ok(Run { answer: vec![last_epoch, next_slash_event_index], nanos })
@@ -207,12 +135,7 @@ fn slash(from: &Start, s: &Slash) -> Asked<Run> {
 /// update_delegation_fee.
 fn fee(from: &Start, fee: u64) -> Asked<Run> {
     let z = Pubkey::default();
-    let mut a = doors::UpdateDelegationFee {
-        reward_program_authority: signer(&z),
-        pool_data: loader(&z, from.pool),
-        pool_config: pool_config(&z, 0, z),
-        system_program: program(&z),
-    };
+    let mut a = handed::update_delegation_fee(from.pool, &z);
     let (_, nanos) = guard(|| {
         from.timed(|_| handlers::update_delegation_fee(context(&mut a), black_box(fee)))
     })?;
@@ -227,22 +150,8 @@ fn stake_account(from: &Start, s: &SetStakeAccount) -> Asked<Run> {
         (a.key, positions(&a.positions, a.owner))
     };
     let (old, new) = (held(&s.old), held(&s.new));
-    let mut there = doors::SetPublisherStakeAccount {
-        signer: signer(&s.signer),
-        publisher: info(&s.publisher),
-        pool_data: loader(&z, from.pool),
-        pool_config: pool_config(&z, 0, s.authority),
-        new_stake_account_positions_option: Some(loader(&new.0, &new.1)),
-        current_stake_account_positions_option: Some(loader(&old.0, &old.1)),
-    };
-    let mut back = doors::SetPublisherStakeAccount {
-        signer: signer(&s.signer),
-        publisher: info(&s.publisher),
-        pool_data: loader(&z, from.pool),
-        pool_config: pool_config(&z, 0, s.authority),
-        new_stake_account_positions_option: Some(loader(&old.0, &old.1)),
-        current_stake_account_positions_option: Some(loader(&new.0, &new.1)),
-    };
+    let mut there = handed::set_publisher_stake_account(from.pool, s, Some(&old), Some(&new), &z);
+    let mut back = handed::set_publisher_stake_account(from.pool, s, Some(&new), Some(&old), &z);
     let (_, nanos) = guard(|| {
         from.timed(|j| {
             let a = if j % 2 == 0 { &mut there } else { &mut back };

@@ -1,31 +1,19 @@
 //! The calls of document 01, asked of the Rust's own handlers (lib.rs). Each answers its values,
-//! every one after a space. The zero key stands for accounts that the accounting doesn't look at.
+//! every one after a space.
 use {
     crate::{
-        accounts::{
-            account, caps, context, info, loader, pool_config, positions, program, set_now, signer,
-            slash_event, token, Held,
-        },
+        accounts::{caps, context, positions, set_now, Held},
         derived,
+        handed::{self, Pool},
         journal::{Advance, Call, Change, Payment, SetStakeAccount, Slash},
         refusal::{guard, Asked},
         site,
     },
     anchor_lang::{given, prelude::Pubkey},
-    integrity_pool::{
-        accounts_door as doors,
-        integrity_pool as handlers,
-        state::{delegation_record::DelegationRecord, pool::PoolData},
-    },
+    integrity_pool::{integrity_pool as handlers, state::delegation_record::DelegationRecord},
     publisher_caps::PublisherCaps,
-    staking::state::{
-        global_config::GlobalConfig,
-        positions::PositionState,
-        target::TargetMetadata,
-    },
+    staking::state::positions::PositionState,
 };
-
-type Pool = Held<PoolData>;
 
 fn fields(r: &DelegationRecord) -> String {
     format!(" {} {}", r.last_epoch, r.next_slash_event_index)
@@ -36,14 +24,7 @@ fn fresh(pool: &Pool, epoch: u64) -> Asked<String> {
     set_now(epoch);
     site::words_mut(&mut pool.borrow_mut()).fill(0);
     let z = Pubkey::default();
-    let mut a = doors::InitializePool {
-        payer:          signer(&z),
-        config_account: account(&z, GlobalConfig { pyth_token_mint: z }),
-        pool_data:      loader(&z, pool),
-        pool_config:    pool_config(&z, 0, z),
-        slash_custody:  token(&z, 0),
-        system_program: program(&z),
-    };
+    let mut a = handed::initialize_pool(pool, &z);
     guard(|| handlers::initialize_pool(context(&mut a), z, 0))?;
     Ok(String::new())
 }
@@ -53,13 +34,7 @@ fn run_advance(pool: &Pool, a: &Advance, caps: &Held<PublisherCaps>) -> Asked<u6
     set_now(a.now);
     let z = Pubkey::default();
     let before = pool.borrow().claimable_rewards;
-    let mut accounts = doors::Advance {
-        signer:              signer(&z),
-        pool_data:           loader(&z, pool),
-        publisher_caps:      loader(&z, caps),
-        pool_config:         pool_config(&z, a.y, z),
-        pool_reward_custody: token(&z, a.custody),
-    };
+    let mut accounts = handed::advance(pool, a, caps, &z);
     guard(|| handlers::advance(context(&mut accounts)))?;
     let after = pool.borrow().claimable_rewards;
     Ok(after - before)
@@ -86,20 +61,7 @@ fn payment(pool: &Pool, p: &Payment) -> Asked<String> {
     let z = Pubkey::default();
     let held = positions(&p.positions, z);
     let before = pool.borrow().claimable_rewards;
-    let mut a = doors::AdvanceDelegationRecord {
-        payer: signer(&z),
-        stake_account_positions: loader(&p.account, &held),
-        pool_data: loader(&z, pool),
-        pool_config: pool_config(&z, 0, z),
-        pool_reward_custody: token(&z, 0),
-        stake_account_custody: token(&z, 0),
-        publisher: info(&p.publisher),
-        publisher_stake_account_positions: p.publisher_account.as_ref().map(info),
-        publisher_stake_account_custody: (p.custody_flag != 0).then(|| token(&z, 0)),
-        delegation_record: account(&z, p.record.clone()),
-        token_program: program(&z),
-        system_program: program(&z),
-    };
+    let mut a = handed::advance_delegation_record(pool, p, &held, &z);
     let delegator = guard(|| handlers::advance_delegation_record(context(&mut a)))?;
     let record = fields(&a.delegation_record.inner);
     let pool = pool.borrow();
@@ -113,18 +75,7 @@ fn payment(pool: &Pool, p: &Payment) -> Asked<String> {
 fn add(pool: &Pool, c: &Change) -> Asked<String> {
     set_now(c.now);
     let z = Pubkey::default();
-    let mut a = doors::Delegate {
-        owner: signer(&z),
-        pool_data: loader(&z, pool),
-        pool_config: pool_config(&z, 0, z),
-        publisher: info(&c.publisher),
-        config_account: info(&z),
-        stake_account_positions: info(&c.account),
-        stake_account_metadata: info(&z),
-        stake_account_custody: info(&z),
-        staking_program: program(&z),
-        system_program: program(&z),
-    };
+    let mut a = handed::delegate(pool, c, &z);
     guard(|| handlers::delegate(context(&mut a), c.amount))?;
     Ok(String::new())
 }
@@ -140,16 +91,7 @@ fn remove(pool: &Pool, c: &Change, state: PositionState) -> Asked<String> {
 fn create_slash_event(pool: &Pool, now: u64, publisher: &Pubkey, index: u64) -> Asked<String> {
     set_now(now);
     let z = Pubkey::default();
-    let mut a = doors::CreateSlashEvent {
-        payer: signer(&z),
-        reward_program_authority: signer(&z),
-        slash_custody: token(&z, 0),
-        pool_data: loader(&z, pool),
-        pool_config: pool_config(&z, 0, z),
-        slash_event: slash_event(&z, 0),
-        publisher: info(publisher),
-        system_program: program(&z),
-    };
+    let mut a = handed::create_slash_event(pool, publisher, &z);
     guard(|| handlers::create_slash_event(context(&mut a), index, 0))?;
     Ok(format!(" {}", a.slash_event.epoch))
 }
@@ -160,23 +102,7 @@ fn slash(pool: &Pool, s: &Slash) -> Asked<String> {
     given::SLASHED.with(|g| g.set((s.locked, s.preunlocking)));
     let z = Pubkey::default();
     let held = positions(&[], z);
-    let mut a = doors::Slash {
-        signer: signer(&z),
-        pool_data: loader(&z, pool),
-        pool_config: pool_config(&z, 0, z),
-        slash_event: slash_event(&z, s.event_epoch),
-        delegation_record: account(&z, s.record.clone()),
-        publisher: info(&s.publisher),
-        stake_account_positions: loader(&s.account, &held),
-        stake_account_metadata: info(&z),
-        stake_account_custody: token(&z, 0),
-        config_account: info(&z),
-        governance_target_account: account(&z, TargetMetadata),
-        slash_custody: token(&z, 0),
-        custody_authority: info(&z),
-        staking_program: program(&z),
-        token_program: program(&z),
-    };
+    let mut a = handed::slash(pool, s, &held, &z);
     guard(|| handlers::slash(context(&mut a), s.index))?;
     Ok(fields(&a.delegation_record.inner))
 }
@@ -184,12 +110,7 @@ fn slash(pool: &Pool, s: &Slash) -> Asked<String> {
 /// update_delegation_fee.
 fn fee(pool: &Pool, fee: u64) -> Asked<String> {
     let z = Pubkey::default();
-    let mut a = doors::UpdateDelegationFee {
-        reward_program_authority: signer(&z),
-        pool_data: loader(&z, pool),
-        pool_config: pool_config(&z, 0, z),
-        system_program: program(&z),
-    };
+    let mut a = handed::update_delegation_fee(pool, &z);
     guard(|| handlers::update_delegation_fee(context(&mut a), fee))?;
     Ok(String::new())
 }
@@ -197,16 +118,9 @@ fn fee(pool: &Pool, fee: u64) -> Asked<String> {
 /// set_publisher_stake_account.
 fn stake_account(pool: &Pool, s: &SetStakeAccount) -> Asked<String> {
     let z = Pubkey::default();
-    let old = s.old.as_ref().map(|a| (&a.key, positions(&a.positions, a.owner)));
-    let new = s.new.as_ref().map(|a| (&a.key, positions(&a.positions, a.owner)));
-    let mut a = doors::SetPublisherStakeAccount {
-        signer: signer(&s.signer),
-        publisher: info(&s.publisher),
-        pool_data: loader(&z, pool),
-        pool_config: pool_config(&z, 0, s.authority),
-        new_stake_account_positions_option: new.as_ref().map(|(k, c)| loader(k, c)),
-        current_stake_account_positions_option: old.as_ref().map(|(k, c)| loader(k, c)),
-    };
+    let old = s.old.as_ref().map(|a| (a.key, positions(&a.positions, a.owner)));
+    let new = s.new.as_ref().map(|a| (a.key, positions(&a.positions, a.owner)));
+    let mut a = handed::set_publisher_stake_account(pool, s, old.as_ref(), new.as_ref(), &z);
     guard(|| handlers::set_publisher_stake_account(context(&mut a)))?;
     Ok(String::new())
 }

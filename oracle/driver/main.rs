@@ -6,6 +6,7 @@ mod accounts;
 mod calls;
 mod checks;
 mod derived;
+mod handed;
 mod journal;
 mod leaf;
 mod refusal;
