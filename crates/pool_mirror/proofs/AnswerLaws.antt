@@ -64,28 +64,33 @@ module _ (found : List ℕ) (r : ForecastAnswer) (o : Outcome ℕ) (e : forecast
   pub forecast-sets : (aside : Amount) → r ≡ forecast.SetsAside aside → (0 ≡ numberOf o) × (aside .0 ∷ [] ≡ oneAnswer found o)
   forecast-sets aside q = let z : accepted (aside .0) ≡ o = sym (ap forecastIs q) ∙ e in (ap numberOf z, ap (oneAnswer found) z)
 
--- in what follows a call is made with `g`, which is the `d` of its contract
-
-module _ (P E : ℕ) (img words : List ℕ) (g d : Claim) (same : g ≡ d) (found answer exit : List ℕ) (r : PaymentAnswer) where
-  module _ (e : paymentIs r ≡ paymentCall P E img words g) (x : exit ≡ paymentImage P E img words g) where
+module _ (P E : ℕ) (img words : List ℕ) (c : Claim) (found answer exit : List ℕ) (r : PaymentAnswer) where
+  module _ (e : paymentIs r ≡ paymentCall P E img words c) (x : exit ≡ paymentImage P E img words c) where
     abbrev pays : Outcome Payment
-    pays = paymentCall P E img words d
-
-    paid-image : exit ≡ paymentImage P E img words d
-    paid-image = x ∙ ap (paymentImage P E img words) same
+    pays = paymentCall P E img words c
 
     pub payment-refused : (k : ℕ) → r ≡ payment.Refused k →
-        (k ≡ numberOf pays) × ((exit ≡ paymentImage P E img words d) × ((found ≡ paymentRecord found pays) × (answer ≡ paymentAnswer answer pays)))
+        (k ≡ numberOf pays) × ((exit ≡ paymentImage P E img words c) × ((found ≡ paymentRecord found pays) × (answer ≡ paymentAnswer answer pays)))
     payment-refused k q =
-        let z : refused k ≡ pays = sym (ap paymentIs q) ∙ e ∙ ap (paymentCall P E img words) same in
-        (ap numberOf z, (paid-image, (ap (paymentRecord found) z, ap (paymentAnswer answer) z)))
+        let z : refused k ≡ pays = sym (ap paymentIs q) ∙ e in
+        (ap numberOf z, (x, (ap (paymentRecord found) z, ap (paymentAnswer answer) z)))
 
     pub payment-paid : (v p fall : Amount) (kept : DelegationRecord) (reads : ℕ) → r ≡ payment.Paid v p fall kept reads →
-        (0 ≡ numberOf pays) × ((exit ≡ paymentImage P E img words d) × ((recordWords kept ≡ paymentRecord found pays) × (v .0 ∷ p .0 ∷ fall .0 ∷ reads ∷ [] ≡ paymentAnswer answer pays)))
+        (0 ≡ numberOf pays) × ((exit ≡ paymentImage P E img words c) × ((recordWords kept ≡ paymentRecord found pays) × (v .0 ∷ p .0 ∷ fall .0 ∷ reads ∷ [] ≡ paymentAnswer answer pays)))
     payment-paid v p fall kept reads q =
-        let z : accepted (record { delegator = v .0; publisher = p .0; custodyFall = fall .0; kept = kept; reads = reads }) ≡ pays =
-        sym (ap paymentIs q) ∙ e ∙ ap (paymentCall P E img words) same in
-        (ap numberOf z, (paid-image, (ap (paymentRecord found) z, ap (paymentAnswer answer) z)))
+        let z : accepted (record { delegator = v .0; publisher = p .0; custodyFall = fall .0; kept = kept; reads = reads }) ≡ pays = sym (ap paymentIs q) ∙ e in
+        (ap numberOf z, (x, (ap (paymentRecord found) z, ap (paymentAnswer answer) z)))
+
+-- in what follows a call is made with `g`, which is the `d` of its contract
+
+module _ (P E : ℕ) (img words : List ℕ) (g d : Claim) (same : g ≡ d) (n : ℕ) (exit found found′ answer answer′ : List ℕ) where
+  pub payment-given :
+      n ≡ numberOf (paymentCall P E img words g) → exit ≡ paymentImage P E img words g → found′ ≡ paymentRecord found (paymentCall P E img words g) →
+      answer′ ≡ paymentAnswer answer (paymentCall P E img words g) →
+      (n ≡ numberOf (paymentCall P E img words d)) × ((exit ≡ paymentImage P E img words d) × ((found′ ≡ paymentRecord found (paymentCall P E img words d)) × (answer′ ≡ paymentAnswer answer (paymentCall P E img words d))))
+  payment-given a b r w =
+      let z = ap (paymentCall P E img words) same in
+      (a ∙ ap numberOf z, (b ∙ ap (paymentImage P E img words) same, (r ∙ ap (paymentRecord found) z, w ∙ ap (paymentAnswer answer) z)))
 
 -- calls that have no values
 module _ (n : ℕ) (r : ChangeAnswer) (is : n ≡ numberOf (changeIs r)) where

@@ -6,7 +6,7 @@ use Prim.Native.Nat.{ℕ, _+_, _/_, _<_}
 use native.Mathlib.Omega.{arith}
 use lib.Dec.{eqb, ltb, leb}
 use Rattle.types.specs.Base.{M, word, half, if_then_else_, Outcome, refused, accepted, mapOutcome, andThen, isAccepted, sumBelow, allBelow}
-use Rattle.types.specs.Refusals.{invalidImage, invalidEpoch, invalidPublisherCaps, invalidY, unverifiedPublisherCaps, poolDataAlreadyUpToDate, outdatedPublisherCaps, invalidPublisher, publisherNotFound, outdatedPublisherAccounting, doesNotFit, claimableOverCustody, unexpectedPositionState}
+use Rattle.types.specs.Refusals.{invalidImage, invalidPublisher, publisherNotFound, outdatedPublisherAccounting, doesNotFit, unexpectedPositionState}
 use Rattle.positions.specs.declared.Key.{Key}
 use Rattle.positions.specs.declared.OptionKey.{OptionKey}
 use Rattle.positions.specs.declared.OptionKey.the-variants.{Some, None}
@@ -249,12 +249,44 @@ module _ (P E : ℕ) (img : List ℕ) where
 
 -- ---- what a caller makes of the number
 
--- 0 is in no list, so a function that returns 0 was accepted, and one that returns another number was refused with it
+-- where 0 is in no list, a function that returns 0 was accepted
 module _ {A : Type 0} (ks : List ℕ) (none : has ks 0 ≡ false) where
   pub zero-accepted : (o : Outcome A) → Among ks o → numberOf o ≡ 0 → isAccepted o ≡ true
   unfolding Among
   zero-accepted (refused n) p e = sym none ∙ ap (has ks) (sym e) ∙ p
   zero-accepted (accepted a) p e = refl
+
+-- the lists one by one: each is asked for 0
+module _ (P E : ℕ) (img : List ℕ) where
+  pub fresh-zero : (given : ℕ) → numberOf (freshCall P E img given) ≡ 0 → isAccepted (freshCall P E img given) ≡ true
+  fresh-zero given = zero-accepted freshRefusals refl _ (fresh-refusals P E img given)
+
+  pub advance-zero : (m : List ℕ) (g : Given) → numberOf (advanceCall P E img m g) ≡ 0 → isAccepted (advanceCall P E img m g) ≡ true
+  advance-zero m g = zero-accepted advanceRefusals refl _ (advance-refusals P E img m g)
+
+  pub forecast-zero : (m : List ℕ) (g : Given) → numberOf (forecastCall P E img m g) ≡ 0 → isAccepted (forecastCall P E img m g) ≡ true
+  forecast-zero m g = zero-accepted advanceRefusals refl _ (forecast-refusals P E img m g)
+
+  pub payment-zero : (words : List ℕ) (c : Claim) → numberOf (paymentCall P E img words c) ≡ 0 → isAccepted (paymentCall P E img words c) ≡ true
+  payment-zero words c = zero-accepted paymentRefusals refl _ (payment-refusals P E img words c)
+
+  pub add-zero : (d : Delegation) (amount : ℕ) → numberOf (addCall P E img d amount) ≡ 0 → isAccepted (addCall P E img d amount) ≡ true
+  add-zero d amount = zero-accepted addRefusals refl _ (add-refusals P E img d amount)
+
+  pub remove-zero : (d : Delegation) (amount : ℕ) (s : PositionState) → numberOf (removeCall P E img d amount s) ≡ 0 → isAccepted (removeCall P E img d amount s) ≡ true
+  remove-zero d amount s = zero-accepted removeRefusals refl _ (remove-refusals P E img d amount s)
+
+  pub create-zero : (k : Key) (index : ℕ) → numberOf (createSlashEventCall P E img k index) ≡ 0 → isAccepted (createSlashEventCall P E img k index) ≡ true
+  create-zero k index = zero-accepted createRefusals refl _ (create-refusals P E img k index)
+
+  pub slash-zero : (x : Slashing) → numberOf (slashCall P E img x) ≡ 0 → isAccepted (slashCall P E img x) ≡ true
+  slash-zero x = zero-accepted slashRefusals refl _ (slash-refusals P E img x)
+
+  pub fee-zero : (fee : ℕ) → numberOf (feeCall P E img fee) ≡ 0 → isAccepted (feeCall P E img fee) ≡ true
+  fee-zero fee = zero-accepted feeRefusals refl _ (fee-refusals P E img fee)
+
+  pub stake-account-zero : (old new : List ℕ) (a : StakeAccounts) → numberOf (stakeAccountCall P E img old new a) ≡ 0 → isAccepted (stakeAccountCall P E img old new a) ≡ true
+  stake-account-zero old new a = zero-accepted stakeAccountRefusals refl _ (stake-account-refusals P E img old new a)
 
 -- ---- a remove of stake that is UNLOCKING is always refused, and so is one with a number that is no state's
 

@@ -36,6 +36,46 @@ fn claim(
     }
 }
 
+// A payment with what it is given. An accepted one stores the record and the answer.
+fn pay(
+    pool: &mut [u64],
+    p: usize,
+    e: usize,
+    positions: &[u64],
+    given: Claim,
+    found: &mut [u64; 2],
+    answer: &mut [u64; 4],
+) -> u64
+    ensures { λ r. ⌜ r ≡ numberOf (paymentCall p e (now (pool .entry)) (now (positions .entry)) given) ⌝ }
+    ensures { λ r. ⌜ now (pool .exit) ≡ paymentImage p e (now (pool .entry)) (now (positions .entry)) given ⌝ }
+    ensures { λ r. ⌜ now (found .exit) ≡ paymentRecord (now (found .entry)) (paymentCall p e (now (pool .entry)) (now (positions .entry)) given) ⌝ }
+    ensures { λ r. ⌜ now (answer .exit) ≡ paymentAnswer (now (answer .entry)) (paymentCall p e (now (pool .entry)) (now (positions .entry)) given) ⌝ }
+{
+    let out = advance_delegation_record(pool, p, e, positions, given);
+    match out {
+        PaymentAnswer::Refused(k) => k,
+        PaymentAnswer::Paid {
+            delegator_reward,
+            publisher_reward,
+            custody_fall,
+            delegation_record,
+            reads,
+        } => {
+            *found = [
+                delegation_record.last_epoch.0,
+                delegation_record.next_slash_event_index,
+            ];
+            *answer = [
+                delegator_reward.0,
+                publisher_reward.0,
+                custody_fall.0,
+                reads,
+            ];
+            0
+        }
+    }
+}
+
 // The positions of an account are paid what they have earned with one publisher. The answer: the delegator's part, the publisher's part, by
 // how much custody falls, the read count.
 #[no_mangle]
@@ -69,27 +109,5 @@ pub extern "C" fn pool_mirror_payment(
         custody_flag,
         unlocking_duration,
     );
-    let out = advance_delegation_record(pool, p, e, positions, given);
-    match out {
-        PaymentAnswer::Refused(k) => k,
-        PaymentAnswer::Paid {
-            delegator_reward,
-            publisher_reward,
-            custody_fall,
-            delegation_record,
-            reads,
-        } => {
-            *found = [
-                delegation_record.last_epoch.0,
-                delegation_record.next_slash_event_index,
-            ];
-            *answer = [
-                delegator_reward.0,
-                publisher_reward.0,
-                custody_fall.0,
-                reads,
-            ];
-            0
-        }
-    }
+    pay(pool, p, e, positions, given, found, answer)
 }
