@@ -1,13 +1,17 @@
 // The rows of the caps message and the seats: each seat's cap, the rows that are matched, and how many of the others find a seat.
 ghost use mathlib.Core.Path.{_≡_};
-ghost use Prim.Native.Nat.{_≤_};
+ghost use Prim.Native.Nat.{_≤_, _<_};
 ghost use lib.ListN.{length};
 ghost use Rattle.types.specs.BoolArray.{markedRows};
+ghost use Rattle.publisher_caps.specs.Key.{numberOf};
+ghost use Rattle.publisher_caps.specs.Lookup.{lookup};
 ghost use Rattle.publisher_caps.specs.Message.{rowsOf, Whole};
 ghost use Rattle.image.specs.Layout.{read};
 ghost use Rattle.image.specs.Seats.{Sized};
 ghost use Rattle.advance_plan.specs.Rows.{withFound, Matched, countsOf};
+use positions::Key;
 use publisher_caps::Found;
+use std::num::wrapping_add_u16;
 use types::bool_array::BoolArray;
 
 // Rows marked as matched, rows that take a seat, and rows that find none.
@@ -17,14 +21,76 @@ pub struct RowCounts {
     pub dropped: u64,
 }
 
-// The marks, with a row that was found marked too.
-fn with_found(marks: BoolArray, found: Found) -> BoolArray
-    ensures { λ r. ⌜ r .words ≡ withFound (marks .words) found ⌝ }
+// Marks a row that was found.
+fn mark_found(words: &mut [u64; 16], found: Found)
+    ensures { λ _. ⌜ now (words .exit) ≡ withFound (now (words .entry)) found ⌝ }
 {
     match found {
-        Found::At(i) => marks.set(i),
-        Found::Nothing => marks,
+        Found::At(i) => BoolArray::set(words, i),
+        Found::Nothing => {}
     }
+}
+
+// Into how many parts the index divides the keys: at least four for each row, so that most parts have one row at most.
+fn parts_for(rows: usize) -> usize
+    ensures { λ r. ⌜ (0 < r) × (r ≤ 4096) ⌝ }
+{
+    if rows <= 16 {
+        return 64;
+    }
+    if rows <= 64 {
+        return 256;
+    }
+    if rows <= 256 {
+        return 1024;
+    }
+    4096
+}
+
+// How many rows are in each part. Nothing is proved of the index: where it is wrong, a row is only found later.
+fn count_rows(m: &[u8], rows: usize, parts: usize, index: &mut [u16; 4096])
+    requires { ⌜ Whole (now m) × (rows ≡ rowsOf (now m)) × (0 < parts) × (parts ≤ 4096) ⌝ }
+{
+    let mut i = 0;
+    while i < rows {
+        let part = publisher_caps::row_part(m, i, parts);
+        index[part] = wrapping_add_u16(index[part], 1);
+        i += 1;
+    }
+}
+
+// Each count becomes the sum up to it: the row behind those of the part.
+fn sum_counts(parts: usize, index: &mut [u16; 4096])
+    requires { ⌜ parts ≤ 4096 ⌝ }
+{
+    let mut sum: u16 = 0;
+    let mut part: usize = 0;
+    while part < parts {
+        sum = wrapping_add_u16(sum, index[part]);
+        index[part] = sum;
+        part += 1;
+    }
+}
+
+// An entry of the index as a row's number: as an argument its range is known.
+fn row_number(entry: u16) -> usize
+    ensures { λ r. ⌜ r ≡ entry ⌝ }
+{
+    entry as usize
+}
+
+// The row of a key, which the index guesses.
+fn find_row(index: &[u16; 4096], parts: usize, m: &[u8], rows: usize, key: Key) -> Found
+    requires { ⌜ (0 < parts) × (parts ≤ 4096) × Whole (now m) × (rows ≡ rowsOf (now m)) ⌝ }
+    ensures { λ r. ⌜ r ≡ lookup (now (m .entry)) (numberOf key) 0 rows ⌝ }
+{
+    let part = publisher_caps::key_part(key, parts);
+    let high = row_number(index[part]);
+    if part == 0 {
+        return publisher_caps::find(m, rows, 0, high, key);
+    }
+    let low = row_number(index[part - 1]);
+    publisher_caps::find(m, rows, low, high, key)
 }
 
 // The caps of the first seats go to `caps`; the rows of their keys are marked.
@@ -40,16 +106,20 @@ pub fn match_rows(
     requires { ⌜ Sized (now pool) p e × (seats ≤ p) × Whole (now m) × (rows ≡ rowsOf (now m)) × (length (now caps) ≡ 1024) ⌝ }
     ensures { λ r. ⌜ Matched (read p e (now (pool .entry))) (now (m .entry)) seats (now (caps .exit)) (r .words) ⌝ }
 {
-    let mut marks = BoolArray::new();
+    let mut index = [0u16; 4096];
+    let parts = parts_for(rows);
+    count_rows(m, rows, parts, &mut index);
+    sum_counts(parts, &mut index);
+    let mut words = [0u64; 16];
     let mut s = 0;
     while s < seats {
         let key = image::seats::publisher(pool, p, e, s);
-        let found = publisher_caps::find(m, rows, key);
-        marks = with_found(marks, found);
+        let found = find_row(&index, parts, m, rows, key);
+        mark_found(&mut words, found);
         caps[s] = publisher_caps::cap_in(m, found);
         s += 1;
     }
-    marks
+    BoolArray { words }
 }
 
 // Of the unmatched rows as many are seated as seats are left, the others dropped.

@@ -2,8 +2,8 @@
 use mathlib.Core.Path.{_≡_, refl, sym, ap, subst, _∙_}
 use mathlib.Core.Bool.{Bool, true, false}
 use mathlib.Core.List.{List, [], _∷_}
-use Prim.Native.Nat.{ℕ, zero, suc, _+_, _*_, _/_, _%_, _^_, _<_}
-use native.Mathlib.Nat.{add-zero, add-suc, mul-assoc, pow-suc, add-assoc, mod-eq-of-lt}
+use Prim.Native.Nat.{ℕ, zero, suc, _+_, _*_, _/_, _%_, _^_, _<_, _≤_}
+use native.Mathlib.Nat.{div-lt-iff-lt-mul, mul-comm, mul-le-mul, mul-lt-mul-of-pos-right, add-zero, add-suc, mul-assoc, pow-suc, add-assoc, mod-eq-of-lt}
 use native.Mathlib.Omega.{arith}
 use lib.Arith.{lt-of-le-ne}
 use lib.Dec.{ltb, eqb}
@@ -49,6 +49,22 @@ pub four-bytes : (m : List ℕ) (at : ℕ)
     → getD m at 0 * 2 ^ 24 + getD m (at + 1) 0 * 2 ^ 16 + getD m (at + 2) 0 * 2 ^ 8 + getD m (at + 3) 0 ≡ bigEndian m at 4
 unfolding bigEndian
 four-bytes m at = omega (arith, ap (λ (n : ℕ). getD m n 0) (add-zero at))
+
+-- the first two bytes, and a part of so many that they are in
+pub two-bytes : (m : List ℕ) (at high low parts : ℕ) → high ≡ getD m at 0 → low ≡ getD m (at + 1) 0
+    → (high * 256 + low) * parts / 2 ^ 16 ≡ bigEndian m at 2 * parts / 2 ^ 16
+unfolding bigEndian
+two-bytes m at high low parts eh el =
+    ap (λ (n : ℕ). n * parts / 2 ^ 16) (omega (arith, ap (λ (n : ℕ). getD m n 0) (add-zero at)))
+
+pub part-below : (x parts : ℕ) → x < 2 ^ 16 → 0 < parts → x * parts / 2 ^ 16 < parts
+part-below x parts h pos = div-lt-iff-lt-mul {k = 2 ^ 16} {x = x * parts} {y = parts} (omega arith) .1 (rw (mul-comm parts (2 ^ 16)) (mul-lt-mul-of-pos-right h pos))
+
+pub part-fits : (x parts : ℕ) → x < 2 ^ 16 → parts ≤ 4096 → x * parts < 2 ^ 64
+part-fits x parts h l =
+    let a : x ≤ 65535 = omega arith in
+    let b : x * parts ≤ 65535 * 4096 = mul-le-mul a l in
+    omega arith
 
 pub two-halves : (m : List ℕ) (at : ℕ) → bigEndian m at 4 * 2 ^ 32 + bigEndian m (at + 4) 4 ≡ bigEndian m at 8
 two-halves m at = sym (split m at 4 4)
@@ -173,6 +189,28 @@ module _ (a b c d a′ b′ c′ d′ : ℕ) where
   pub less-3 : a ≡ a′ → b ≡ b′ → c ≡ c′ → d < d′ → number a b c d < number a′ b′ c′ d′
   less-3 ea eb ec h = pair-low (cc) h
 
+-- 32 bytes whose first word decides
+pub words-above : (m : List ℕ) → ((i : ℕ) → getD m i 0 < 256) → (at at′ : ℕ) → bigEndian m at 8 < bigEndian m at′ 8
+    → bigEndian m at 32 < bigEndian m at′ 32
+words-above m small at at′ h =
+    rw (← four m at _ _ _ _ refl refl refl refl, ← four m at′ _ _ _ _ refl refl refl refl)
+    (less-0 _ _ _ _ _ _ _ _ h (bytes-below m small (at + 8) 8) (bytes-below m small (at + 16) 8) (bytes-below m small (at + 24) 8))
+
+pub words-some : (m : List ℕ) (at : ℕ) → 0 < bigEndian m at 8 → 0 < bigEndian m at 32
+words-some m at h =
+    rw (← four m at _ _ _ _ refl refl refl refl)
+    (rw number-zero at (less-0 0 0 0 0 (bigEndian m at 8) (bigEndian m (at + 8) 8) (bigEndian m (at + 16) 8) (bigEndian m (at + 24) 8) h
+    (omega arith) (omega arith) (omega arith)))
+
+-- 32 bytes and four words
+pub words-over : (m : List ℕ) → ((i : ℕ) → getD m i 0 < 256) → (at a b c d : ℕ) → bigEndian m at 8 < a → bigEndian m at 32 < number a b c d
+words-over m small at a b c d h =
+    rw (← four m at _ _ _ _ refl refl refl refl)
+    (less-0 _ _ _ _ _ _ _ _ h (bytes-below m small (at + 8) 8) (bytes-below m small (at + 16) 8) (bytes-below m small (at + 24) 8))
+
+pub words-under : (m : List ℕ) (at a b c d : ℕ) → a < bigEndian m at 8 → b < word → c < word → d < word → number a b c d < bigEndian m at 32
+words-under m at a b c d h fb fc fd = rw (← four m at _ _ _ _ refl refl refl refl) (less-0 _ _ _ _ _ _ _ _ h fb fc fd)
+
 -- ---- the order
 
 pub order-less : (x y : ℕ) → x < y → Less ≡ orderOf x y
@@ -204,6 +242,15 @@ told x y = go (ltb x y) (eqb x y) refl refl
 
 pub order-told : (o a : Order) (x y : ℕ) → o ≡ a → o ≡ orderOf x y → Told a x y
 order-told o a x y e h = subst (λ (z : Order). Told z x y) (sym h ∙ e) (told x y)
+
+pub told-less : (x y : ℕ) → Told Less x y → true ≡ ltb x y
+told-less x y h = sym (lt-ltb x y h)
+
+pub told-equal : (x y : ℕ) → Told Equal x y → false ≡ ltb x y
+told-equal x y h = sym (le-ltb x y (omega arith))
+
+pub told-greater : (x y : ℕ) → Told Greater x y → false ≡ ltb x y
+told-greater x y h = sym (le-ltb x y (omega arith))
 
 -- ---- a key of four words against the one at `at`: one law for each way out of the comparison
 

@@ -8,13 +8,15 @@ use native.Mathlib.Decide.{ℕ-discrete}
 use native.Mathlib.Omega.{arith}
 use lib.Dec.{ltb, eqb}
 use lib.ListN.{getD}
-use borrow.Author.Tests.{eq-eqb, ne-eqb, ltb-true, ltb-false, eqb-true, eqb-false}
+use borrow.Author.Tests.{lt-ltb, le-ltb, eq-eqb, ne-eqb, ltb-true, ltb-false, eqb-true, eqb-false}
 use Rattle.types.specs.Base.{if_then_else_, word}
+use Rattle.types.proofs.Below.{and-both}
 use Rattle.publisher_caps.specs.declared.Found.{Found}
 use Rattle.publisher_caps.specs.declared.Found.the-variants.{At, Nothing}
+use Rattle.publisher_caps.specs.Key.{bigEndian, number}
 use Rattle.publisher_caps.specs.Message.{rowsOf, keyAt, capAt, Whole}
-use Rattle.publisher_caps.specs.Lookup.{lookup, foundOf, RowIn, capIn, capOf}
-use Rattle.publisher_caps.proofs.KeyLaws.{bytes-below}
+use Rattle.publisher_caps.specs.Lookup.{lookup, foundOf, hasKey, AboveFront, BelowRest, Encloses, RowIn, capIn, capOf}
+use Rattle.publisher_caps.proofs.KeyLaws.{bytes-below, words-over, words-under}
 
 suc-add : (a b : ℕ) → suc a + b ≡ suc (a + b)
 suc-add a b = omega arith
@@ -105,6 +107,78 @@ module _ (m : List ℕ) (from rows key : ℕ) (given : Whole m × (from + rows �
     where
       along : (a b : ℕ) → a + b + 1 ≡ a + (b + 1)
       along a b = omega arith
+
+-- ---- rows that a key can stand in alone
+
+pub not-there : (m : List ℕ) (rows i key : ℕ) → rows ≤ i → false ≡ hasKey m rows i key
+unfolding hasKey
+not-there m rows i key h = rw (le-ltb i rows h)
+
+module _ (m : List ℕ) (whole : Whole m) where
+  -- later keys are not smaller
+  keys-rise : (i j : ℕ) → i ≤ j → j < rowsOf m → keyAt m i ≤ keyAt m j
+  keys-rise i j ij jr = go (ℕ-discrete i j)
+    where
+      go : Dec (i ≡ j) → keyAt m i ≤ keyAt m j
+      go (yes e) = omega (arith, ap (keyAt m) e)
+      go (no ne) = omega (arith, whole .ordered i j (omega arith) (omega arith))
+
+  pub above-none : (low first : ℕ) → low ≡ 0 → AboveFront m low first
+  above-none low first e i b c d l = absurd (omega arith)
+
+  pub above-front : ((k : ℕ) → getD m k 0 < 256) → (low first before : ℕ) → 0 < low → low ≤ rowsOf m
+      → before ≡ bigEndian m (11 + (low - 1) * 40) 8 → before < first → AboveFront m low first
+  above-front small low first before pos le e h i b c d l =
+      omega (arith, keys-rise i (low - 1) (omega arith) (omega arith), words-over m small (11 + (low - 1) * 40) first b c d (omega arith))
+
+  pub below-none : (high first : ℕ) → rowsOf m ≤ high → BelowRest m high first
+  below-none high first h i b c d l k fb fc fd = absurd (omega arith)
+
+  pub below-rest : (high first behind : ℕ) → behind ≡ bigEndian m (11 + high * 40) 8 → first < behind → BelowRest m high first
+  below-rest high first behind e h i b c d l k fb fc fd =
+      omega (arith, keys-rise high i l k, words-under m (11 + high * 40) first b c d (omega arith) fb fc fd)
+
+  -- the first of the rows has the key
+  pub from-first : (low key rows : ℕ) → rows ≡ rowsOf m → hasKey m rows low key ≡ true → foundOf low ≡ lookup m key 0 rows
+  unfolding hasKey
+  from-first low key rows er e =
+      let t = and-both (ltb low rows) (eqb (keyAt m low) key) e in
+      let l : low < rowsOf m = omega (arith, ltb-true low rows (t .0)) in
+      found-at low (λ z. omega (arith, whole .few))
+      ∙ first m key low (rows - low) (omega arith) (sym (eqb-true (keyAt m low) key (t .1)))
+      ∙ ap (λ (n : ℕ). lookup m key n (rows - low)) (sym (zero-add low))
+      ∙ skip m key low 0 (rows - low) (λ j a b z. omega (arith, whole .ordered j low (omega arith) l, eqb-true (keyAt m low) key (t .1)))
+      ∙ ap (λ (n : ℕ). lookup m key 0 n) (omega arith)
+
+  module _ (low high k0 k1 k2 k3 : ℕ) (f1 : k1 < word) (f2 : k2 < word) (f3 : k3 < word) where
+    abbrev key : ℕ
+    key = number k0 k1 k2 k3
+
+    module _ (only : Encloses m low high k0) where
+      -- so the search among them is one among all
+      enclosed : (rows : ℕ) → rows ≡ rowsOf m → lookup m key low (high - low) ≡ lookup m key 0 rows
+      enclosed rows er =
+          let o = only .order in
+          let w = only .within in
+          cut m key (high - low) low (rows - high) (λ i a b q. omega (arith, only .below i k1 k2 k3 (omega arith) (omega arith) f1 f2 f3))
+          ∙ ap (λ (n : ℕ). lookup m key n (high - low + (rows - high))) (sym (zero-add low))
+          ∙ skip m key low 0 (high - low + (rows - high)) (λ i a b q. omega (arith, only .above i k1 k2 k3 (omega arith)))
+          ∙ ap (λ (n : ℕ). lookup m key 0 n) (omega arith)
+
+      pub from-all : (rows r : ℕ) → rows ≡ rowsOf m → foundOf r ≡ lookup m key low (high - low) → foundOf r ≡ lookup m key 0 rows
+      from-all rows r er e = e ∙ enclosed rows er
+
+      -- none is left behind the first
+      pub from-none : (rows : ℕ) → rows ≡ rowsOf m → high ≤ low + 1 → hasKey m rows low key ≡ false → foundOf 1_024 ≡ lookup m key 0 rows
+      unfolding hasKey
+      from-none rows er l ne = found-none ∙ sym (lookup-without m key low (high - low) none) ∙ enclosed rows er
+        where
+          none : (i : ℕ) → low ≤ i → i < low + (high - low) → keyAt m i ≡ key → ⊥
+          none i a b q =
+              let s : i ≡ low = omega arith in
+              let t : low < rows = omega (arith, only .within) in
+              let e : eqb (keyAt m low) key ≡ false = rw (lt-ltb low rows t) at ne in
+              eqb-false (keyAt m low) key e (ap (keyAt m) (sym s) ∙ q)
 
 -- what a search's number says
 module _ (m : List ℕ) (rows key key′ n : ℕ) (same : key ≡ key′) (found : foundOf n ≡ lookup m key 0 rows) where

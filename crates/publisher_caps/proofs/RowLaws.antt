@@ -1,21 +1,42 @@
 -- Laws of the keys' order: what the check's loop keeps, and what its answer says. Assumes nothing.
-use mathlib.Core.Path.{_≡_, sym, ap, subst}
+use mathlib.Core.Path.{_≡_, refl, sym, ap, ap₂, subst, _∙_}
 use mathlib.Core.Logic.{_⊎_, ⊎-elim}
 use mathlib.Core.Bool.{Bool, true, false, _&&_}
 use mathlib.Core.List.{List}
-use Prim.Native.Nat.{ℕ, zero, suc, _+_, _-_, _<_, _≤_}
+use Prim.Native.Nat.{ℕ, zero, suc, _+_, _-_, _*_, _<_, _≤_}
 use native.Mathlib.Nat.{eq-or-lt-of-le}
 use native.Mathlib.Numerals.{add-one}
 use native.Mathlib.Omega.{arith}
 use lib.Dec.{ltb}
+use lib.ListN.{getD}
 use borrow.Author.Tests.{lt-ltb, le-ltb, ltb-true}
 use Rattle.types.proofs.Below.{and-left, and-right, all-each, all-not, all-at}
-use Rattle.publisher_caps.specs.Message.{keyAt, ascends, noneZero}
+use Rattle.publisher_caps.specs.Key.{bigEndian, number}
+use Rattle.publisher_caps.specs.Message.{keyAt, keyBefore, firstBefore, ascends, noneZero}
+use Rattle.publisher_caps.proofs.KeyLaws.{number-zero, four, words-above, words-some}
 
--- the key before row i, 0 before the first
-abbrev pub keyBefore : List ℕ → ℕ → ℕ
-keyBefore m zero = 0
-keyBefore m (suc i) = keyAt m i
+-- ---- one row against the one before it
+
+module _ (m : List ℕ) where
+  -- the first words tell
+  pub rises-first : (i before first : ℕ) → ((k : ℕ) → getD m k 0 < 256) → before ≡ firstBefore m i → first ≡ bigEndian m (11 + i * 40) 8
+      → before < first → true ≡ ltb (keyBefore m i) (keyAt m i)
+  rises-first zero before first small eb ef h = sym (lt-ltb _ _ (words-some m 11 (omega arith)))
+  rises-first (suc i) before first small eb ef h = sym (lt-ltb _ _ (words-above m small (11 + i * 40) (11 + suc i * 40) (omega arith)))
+
+  -- the whole keys are compared
+  pub rises-zero : (i : ℕ) (r : Bool) → i ≡ 0 → r ≡ ltb (number 0 0 0 0) (bigEndian m 11 32) → r ≡ ltb (keyBefore m i) (keyAt m i)
+  rises-zero i r e h = rw e (h ∙ ap (λ (n : ℕ). ltb n (bigEndian m 11 32)) number-zero)
+
+  pub rises-row : (i at before k1 k2 k3 : ℕ) (r : Bool) → (i ≡ 0 → ⊥) → at ≡ 11 + (i - 1) * 40 → before ≡ firstBefore m i
+      → k1 ≡ bigEndian m (at + 8) 8 → k2 ≡ bigEndian m (at + 16) 8 → k3 ≡ bigEndian m (at + 24) 8
+      → r ≡ ltb (number before k1 k2 k3) (bigEndian m (at + 40) 32) → r ≡ ltb (keyBefore m i) (keyAt m i)
+  rises-row zero at before k1 k2 k3 r ne ea eb e1 e2 e3 h = absurd (ne refl)
+  rises-row (suc i) at before k1 k2 k3 r ne ea eb e1 e2 e3 h =
+      let here : at ≡ 11 + i * 40 = omega arith in
+      h ∙ ap₂ ltb
+      (four m at before k1 k2 k3 (eb ∙ ap (λ (n : ℕ). bigEndian m n 8) (sym here)) e1 e2 e3 ∙ ap (λ (n : ℕ). bigEndian m n 32) here)
+      (ap (λ (n : ℕ). bigEndian m n 32) (omega arith))
 
 -- each of the first i keys is above the one before it; `prior` is the last of them
 pub record Climbs (m : List ℕ) (i prior : ℕ) : Type 0 where
@@ -37,6 +58,12 @@ module _ (m : List ℕ) where
 
       go : (j : ℕ) → j < suc i → (j ≡ i) ⊎ (j < i) → keyBefore m j < keyAt m j
       go j lj w = ⊎-elim (λ q. subst (λ (n : ℕ). keyBefore m n < keyAt m n) (sym q) here) (λ k. h .each j k) w
+
+  pub climbs-next : (i : ℕ) → Climbs m i (keyBefore m i) → keyBefore m i < keyAt m i → Climbs m (i + 1) (keyBefore m (i + 1))
+  climbs-next i h l = climbs-more i (keyBefore m i) (keyBefore m (i + 1)) h l (rw (add-one i))
+
+  pub first-next : (i first : ℕ) → first ≡ bigEndian m (11 + i * 40) 8 → first ≡ firstBefore m (i + 1)
+  first-next i first e = rw (add-one i) e
 
   -- the row before is below: so no key is zero
   above-zero : (i : ℕ) → keyBefore m i < keyAt m i → 0 < keyAt m i

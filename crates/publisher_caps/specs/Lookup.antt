@@ -1,11 +1,13 @@
 -- Item 2: the row of a key, and a key's cap. Assumes nothing.
+use mathlib.Core.Bool.{Bool, _&&_}
 use mathlib.Core.List.{List}
-use Prim.Native.Nat.{ℕ, zero, suc, _+_, _<_}
-use lib.Dec.{eqb}
-use Rattle.types.specs.Base.{if_then_else_}
+use Prim.Native.Nat.{ℕ, zero, suc, _+_, _≤_, _<_}
+use lib.Dec.{ltb, eqb}
+use Rattle.types.specs.Base.{word, if_then_else_}
 use Rattle.publisher_caps.specs.declared.Found.{Found}
 use Rattle.publisher_caps.specs.declared.Found.the-variants.{At, Nothing}
-use Rattle.publisher_caps.specs.Message.{keyAt, capAt}
+use Rattle.publisher_caps.specs.Key.{number}
+use Rattle.publisher_caps.specs.Message.{rowsOf, keyAt, capAt}
 
 -- the first of `rows` rows from `from` on that has the key, looked for row by row
 unfoldable pub lookup : List ℕ → (key from rows : ℕ) → Found
@@ -29,3 +31,22 @@ RowIn Nothing rows = Unit {0}
 -- the search's answer, a number: no message has a row 1,024
 unfoldable pub foundOf : ℕ → Found
 foundOf n = if eqb n 1_024 then Nothing else At n
+
+-- row i is one of the first `rows` and has the key
+unfoldable pub hasKey : List ℕ → (rows i key : ℕ) → Bool
+hasKey m rows i key = ltb i rows && eqb (keyAt m i) key
+
+-- keys with this first word are above those of the rows in front of `low`
+abbrev pub AboveFront : List ℕ → (low first : ℕ) → Type 0
+AboveFront m low first = (i b c d : ℕ) → i < low → keyAt m i < number first b c d
+
+-- they are below those of the rows from `high` on
+abbrev pub BelowRest : List ℕ → (high first : ℕ) → Type 0
+BelowRest m high first = (i b c d : ℕ) → high ≤ i → i < rowsOf m → b < word → c < word → d < word → number first b c d < keyAt m i
+
+-- so one of them stands in the rows from `low` up to `high`, if in any
+pub record Encloses (m : List ℕ) (low high first : ℕ) : Type 0 where
+  pub order : low ≤ high
+  pub within : high ≤ rowsOf m
+  pub above : AboveFront m low first
+  pub below : BelowRest m high first

@@ -1,7 +1,7 @@
 -- Document 01's paragraph 'A caps message is bytes', and refusal 3. Assumes nothing.
 use mathlib.Core.Bool.{Bool, _&&_}
 use mathlib.Core.List.{List}
-use Prim.Native.Nat.{ℕ, _+_, _-_, _*_, _≤_, _<_}
+use Prim.Native.Nat.{ℕ, zero, suc, _+_, _-_, _*_, _≤_, _<_}
 use lib.Dec.{leb, ltb}
 use lib.ListN.{length}
 use Rattle.types.specs.Base.{half, allBelow}
@@ -25,6 +25,16 @@ keyAt m i = bigEndian m (11 + i * 40) 32
 
 abbrev pub capAt : List ℕ → ℕ → ℕ
 capAt m i = bigEndian m (11 + i * 40 + 32) 8
+
+-- the key before row i, 0 before the first
+abbrev pub keyBefore : List ℕ → ℕ → ℕ
+keyBefore m zero = 0
+keyBefore m (suc i) = keyAt m i
+
+-- its first word
+abbrev pub firstBefore : List ℕ → ℕ → ℕ
+firstBefore m zero = 0
+firstBefore m (suc i) = bigEndian m (11 + i * 40) 8
 
 -- word c of row i's key as the image holds it: the little-endian memory of the same bytes
 unfoldable pub keyWord : List ℕ → (i c : ℕ) → ℕ

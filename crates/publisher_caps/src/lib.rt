@@ -1,12 +1,13 @@
 // Caps messages, publisher-caps/src/lib.rs: byte 0 a type byte, 1 to 8 the publish time, 9 to 10 the row count, from 11 on rows of a
 // 32-byte key and an 8-byte cap, all big-endian.
 ghost use mathlib.Core.Path.{_≡_};
-ghost use mathlib.Core.Bool.{_&&_};
-ghost use Prim.Native.Nat.{_+_, _*_, _^_, _≤_, _<_};
+ghost use Prim.Native.Nat.{_+_, _*_, _/_, _%_, _^_, _≤_, _<_};
+ghost use mathlib.Core.Bool.{true, _&&_};
+ghost use lib.Dec.{ltb};
 ghost use lib.ListN.{length};
 ghost use Rattle.publisher_caps.specs.Key.{bigEndian, littleEndian, swapped, number, numberOf, orderOf};
-ghost use Rattle.publisher_caps.specs.Message.{timeOf, rowsOf, rowOf, ascends, noneZero, messageHolds, Whole};
-ghost use Rattle.publisher_caps.specs.Lookup.{lookup, foundOf, RowIn, capIn, capOf};
+ghost use Rattle.publisher_caps.specs.Message.{timeOf, rowsOf, rowOf, keyAt, keyBefore, firstBefore, ascends, noneZero, messageHolds, Whole};
+ghost use Rattle.publisher_caps.specs.Lookup.{lookup, foundOf, hasKey, AboveFront, BelowRest, Encloses, RowIn, capIn, capOf};
 use positions::Key;
 
 // The most rows that a message has.
@@ -118,30 +119,52 @@ fn compare_row(m: &[u8], at: usize, k0: u64, k1: u64, k2: u64, k3: u64) -> Order
     Order::Equal
 }
 
+// Whether the key at `at` is above this one, four words with the highest first.
+fn is_above(m: &[u8], at: usize, k0: u64, k1: u64, k2: u64, k3: u64) -> bool
+    requires { ⌜ at + 32 ≤ length (now m) ⌝ }
+    ensures { λ r. ⌜ r ≡ ltb (number k0 k1 k2 k3) (bigEndian (now (m .entry)) at 32) ⌝ }
+{
+    let order = compare_row(m, at, k0, k1, k2, k3);
+    match order {
+        Order::Less => true,
+        Order::Equal => false,
+        Order::Greater => false,
+    }
+}
+
+// Whether the key of row i is above the one before it, the first above zero. Where the first words of both tell, the rest is not read.
+fn rises(m: &[u8], i: usize, before: u64, first: u64) -> bool
+    requires { ⌜ (11 + (i + 1) * 40 ≤ length (now m)) × (before ≡ firstBefore (now m) i) × (first ≡ bigEndian (now m) (11 + i * 40) 8) ⌝ }
+    ensures { λ r. ⌜ r ≡ ltb (keyBefore (now (m .entry)) i) (keyAt (now (m .entry)) i) ⌝ }
+{
+    if before < first {
+        return true;
+    }
+    if i == 0 {
+        return is_above(m, 11, 0, 0, 0, 0);
+    }
+    let at = 11 + (i - 1) * 40;
+    let k1 = be64(m, at + 8);
+    let k2 = be64(m, at + 16);
+    let k3 = be64(m, at + 24);
+    is_above(m, at + 40, before, k1, k2, k3)
+}
+
 // Whether the keys of the first `rows` rows ascend strictly and none is zero: each is above the one before it, the first above zero.
 fn ascending(m: &[u8], rows: usize) -> bool
     requires { ⌜ 11 + rows * 40 ≤ length (now m) ⌝ }
     ensures { λ r. ⌜ r ≡ (ascends (now (m .entry)) rows && noneZero (now (m .entry)) rows) ⌝ }
 {
-    let mut k0: u64 = 0;
-    let mut k1: u64 = 0;
-    let mut k2: u64 = 0;
-    let mut k3: u64 = 0;
+    let mut before: u64 = 0;
     let mut i = 0;
     while i < rows {
-        let at = 11 + i * 40;
-        let order = compare_row(m, at, k0, k1, k2, k3);
-        match order {
-            Order::Less => {
-                k0 = be64(m, at);
-                k1 = be64(m, at + 8);
-                k2 = be64(m, at + 16);
-                k3 = be64(m, at + 24);
-                i += 1;
-            }
-            Order::Equal => return false,
-            Order::Greater => return false,
+        let first = be64(m, 11 + i * 40);
+        let above = rises(m, i, before, first);
+        if !above {
+            return false;
         }
+        before = first;
+        i += 1;
     }
     true
 }
@@ -220,8 +243,104 @@ fn search(m: &[u8], from: usize, rows: usize, k0: u64, k1: u64, k2: u64, k3: u64
     }
 }
 
-// The row of a key in a checked message of `rows` rows.
-pub fn find(m: &[u8], rows: usize, key: Key) -> Found
+// Whether row i is there and has this key, four words with the highest first.
+fn has_key(m: &[u8], rows: usize, i: usize, k0: u64, k1: u64, k2: u64, k3: u64) -> bool
+    requires { ⌜ Whole (now m) × (rows ≡ rowsOf (now m)) ⌝ }
+    ensures { λ r. ⌜ r ≡ hasKey (now (m .entry)) rows i (number k0 k1 k2 k3) ⌝ }
+{
+    if rows <= i {
+        return false;
+    }
+    let at = 11 + i * 40;
+    let first = be64(m, at);
+    if first != k0 {
+        return false;
+    }
+    let second = be64(m, at + 8);
+    let third = be64(m, at + 16);
+    let last = be64(m, at + 24);
+    if second != k1 {
+        return false;
+    }
+    if third != k2 {
+        return false;
+    }
+    last == k3
+}
+
+// Whether keys with this first word are above those of the rows in front of `low`.
+fn above_front(m: &[u8], low: usize, first: u64) -> bool
+    requires { ⌜ Whole (now m) × (low ≤ rowsOf (now m)) ⌝ }
+    ensures { λ r. ⌜ (r ≡ true → AboveFront (now (m .entry)) low first) ⌝ }
+{
+    if low == 0 {
+        return true;
+    }
+    let before = be64(m, 11 + (low - 1) * 40);
+    before < first
+}
+
+// Whether they are below those of the rows from `high` on.
+fn below_rest(m: &[u8], rows: usize, high: usize, first: u64) -> bool
+    requires { ⌜ Whole (now m) × (rows ≡ rowsOf (now m)) ⌝ }
+    ensures { λ r. ⌜ (r ≡ true → BelowRest (now (m .entry)) high first) ⌝ }
+{
+    if rows <= high {
+        return true;
+    }
+    let behind = be64(m, 11 + high * 40);
+    first < behind
+}
+
+// Whether a key with this first word stands in the rows from `low` up to `high`, if in any.
+fn encloses(m: &[u8], rows: usize, low: usize, high: usize, first: u64) -> bool
+    requires { ⌜ Whole (now m) × (rows ≡ rowsOf (now m)) ⌝ }
+    ensures { λ r. ⌜ (r ≡ true → Encloses (now (m .entry)) low high first) ⌝ }
+{
+    if high < low {
+        return false;
+    }
+    if rows < high {
+        return false;
+    }
+    let above = above_front(m, low, first);
+    if !above {
+        return false;
+    }
+    below_rest(m, rows, high, first)
+}
+
+// The row of a key as `search` gives it. It is looked for in the rows from `low` up to `high`, of which the first one is tried at once, and in
+// all rows where it can stand outside of these.
+fn search_from(
+    m: &[u8],
+    rows: usize,
+    low: usize,
+    high: usize,
+    k0: u64,
+    k1: u64,
+    k2: u64,
+    k3: u64,
+) -> usize
+    requires { ⌜ Whole (now m) × (rows ≡ rowsOf (now m)) ⌝ }
+    ensures { λ r. ⌜ foundOf r ≡ lookup (now (m .entry)) (number k0 k1 k2 k3) 0 rows ⌝ }
+{
+    let here = has_key(m, rows, low, k0, k1, k2, k3);
+    if here {
+        return low;
+    }
+    let alone = encloses(m, rows, low, high, k0);
+    if !alone {
+        return search(m, 0, rows, k0, k1, k2, k3);
+    }
+    if high <= low + 1 {
+        return MAX_CAPS;
+    }
+    search(m, low, high - low, k0, k1, k2, k3)
+}
+
+// The row of a key in a checked message of `rows` rows. A guess that it stands from `low` up to `high` makes it faster where it is right.
+pub fn find(m: &[u8], rows: usize, low: usize, high: usize, key: Key) -> Found
     requires { ⌜ Whole (now m) × (rows ≡ rowsOf (now m)) ⌝ }
     ensures { λ r. ⌜ r ≡ lookup (now (m .entry)) (numberOf key) 0 rows ⌝ }
 {
@@ -229,11 +348,32 @@ pub fn find(m: &[u8], rows: usize, key: Key) -> Found
     let k1 = swap(key.1);
     let k2 = swap(key.2);
     let k3 = swap(key.3);
-    let row = search(m, 0, rows, k0, k1, k2, k3);
+    let row = search_from(m, rows, low, high, k0, k1, k2, k3);
     if row == MAX_CAPS {
         return Found::Nothing;
     }
     Found::At(row)
+}
+
+// In which of so many equal parts of all keys the key of row i is, by its first two bytes.
+pub fn row_part(m: &[u8], i: usize, parts: usize) -> usize
+    requires { ⌜ Whole (now m) × (i < rowsOf (now m)) × (0 < parts) × (parts ≤ 4096) ⌝ }
+    ensures { λ r. ⌜ (r ≡ bigEndian (now (m .entry)) (11 + i * 40) 2 * parts / 2 ^ 16) × (r < parts) ⌝ }
+{
+    let at = 11 + i * 40;
+    let high = widened(m[at]);
+    let low = widened(m[at + 1]);
+    (high * 256 + low) as usize * parts / 0x1_0000
+}
+
+// The same of a key of the image.
+pub fn key_part(key: Key, parts: usize) -> usize
+    requires { ⌜ (0 < parts) × (parts ≤ 4096) ⌝ }
+    ensures { λ r. ⌜ (r ≡ (key .0 % 256 * 256 + key .0 / 256 % 256) * parts / 2 ^ 16) × (r < parts) ⌝ }
+{
+    let high = key.0 % 256;
+    let low = key.0 / 256 % 256;
+    (high * 256 + low) as usize * parts / 0x1_0000
 }
 
 // The cap of a row that was found, 0 for none.
@@ -252,6 +392,6 @@ pub fn cap_of(m: &[u8], rows: usize, key: Key) -> u64
     requires { ⌜ Whole (now m) × (rows ≡ rowsOf (now m)) ⌝ }
     ensures { λ r. ⌜ r ≡ capOf (now (m .entry)) rows (numberOf key) ⌝ }
 {
-    let found = find(m, rows, key);
+    let found = find(m, rows, 0, rows, key);
     cap_in(m, found)
 }

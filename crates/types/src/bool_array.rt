@@ -33,18 +33,15 @@ impl BoolArray {
         (w >> (i % 64)) % 2 == 1
     }
 
-    // The marks with row i marked too.
-    pub fn set(self, i: usize) -> BoolArray
-        ensures { λ r. ⌜ r .words ≡ withMark (self .words) i ⌝ }
+    // Marks row i in the marks' words, where they stand.
+    pub fn set(words: &mut [u64; 16], i: usize)
+        ensures { λ _. ⌜ now (words .exit) ≡ withMark (now (words .entry)) i ⌝ }
     {
-        if 1024 <= i {
-            return self;
+        if i < 1024 {
+            let k = i / 64;
+            let w = words[k];
+            words[k] = w | (1u64 << (i % 64));
         }
-        let k = i / 64;
-        let mut next = self;
-        let w = next.words[k];
-        next.words[k] = w | (1u64 << (i % 64));
-        next
     }
 
     // How many rows are marked: the ones, counted over the mark words.

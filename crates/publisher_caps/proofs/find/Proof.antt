@@ -1,8 +1,8 @@
 -- `publisher_caps::find` meets its contract. Assumes nothing.
 use native.Mathlib.Omega.{arith}
-use borrow.Author.Needs.{needs}
 use Rattle.publisher_caps.proofs.KeyLaws.{number-same}
 use Rattle.publisher_caps.proofs.LookupLaws.{find-none, find-row}
+use borrow.Author.Needs.{needs}
 use Rattle.publisher_caps.proofs.find.Statement.{statement}
 use Rattle.publisher_caps.proofs.find.Tie as tie
 
@@ -18,22 +18,14 @@ swap-requires-3 c κs = search needs
 swap-requires-4 : tie.Need-swap-requires-4
 swap-requires-4 c κs = search needs
 
-search-requires : tie.Need-search-requires
-search-requires c κs = search needs
+search-from-requires : tie.Need-search-from-requires
+search-from-requires c κs = search needs
 
 returns : tie.Need-returns
-returns c =
-    find-none _ _ _ _ _
-    (number-same (c .before .before .before .before .before .swap .ensures)
-    (c .before .before .before .before .swap2 .ensures) (c .before .before .before .swap3 .ensures) (c .before .before .swap4 .ensures))
-    (c .before .search .ensures) (omega arith)
+returns c = find-none _ _ _ _ _ (number-same (c .before .before .before .before .before .swap .ensures) (c .before .before .before .before .swap2 .ensures) (c .before .before .before .swap3 .ensures) (c .before .before .swap4 .ensures)) (c .before .search-from .ensures) (omega arith)
 
 returns-2 : tie.Need-returns-2
-returns-2 c =
-    find-row _ _ _ _ _
-    (number-same (c .before .before .before .before .before .swap .ensures)
-    (c .before .before .before .before .swap2 .ensures) (c .before .before .before .swap3 .ensures) (c .before .before .swap4 .ensures))
-    (c .before .search .ensures) (c .if1 .left)
+returns-2 c = find-row _ _ _ _ _ (number-same (c .before .before .before .before .before .swap .ensures) (c .before .before .before .before .swap2 .ensures) (c .before .before .before .swap3 .ensures) (c .before .before .swap4 .ensures)) (c .before .search-from .ensures) (c .if1 .left)
 
 pub find-spec : {M : Type 1} → statement M
 find-spec =
@@ -43,6 +35,6 @@ find-spec =
     swap-requires-2
     swap-requires-3
     swap-requires-4
-    search-requires
+    search-from-requires
     returns
     returns-2)

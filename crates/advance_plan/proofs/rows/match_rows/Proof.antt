@@ -1,39 +1,46 @@
 -- `advance_plan::rows::match_rows` meets its contract. Assumes nothing.
 use Prim.Native.Nat.{_≤_, _<_, _-_}
-use mathlib.Core.Path.{_≡_, ap, _∙_}
+use mathlib.Core.Path.{_≡_, refl, ap, _∙_}
 use lib.ListN.{length, length-set}
+use native.Mathlib.Omega.{arith}
+use borrow.Author.Needs.{needs}
 use Rattle.image.specs.Layout.{read}
 use Rattle.publisher_caps.proofs.LookupLaws.{lookup-inside}
 use Rattle.advance_plan.specs.Rows.{Matched}
 use Rattle.advance_plan.proofs.RowLaws.{matched-none, matched-more, matched-all, key-is, length-with}
-use native.Mathlib.Omega.{arith}
 use borrow.Author.Needs.{needs}
 use Rattle.advance_plan.proofs.rows.match_rows.Statement.{statement}
 use Rattle.advance_plan.proofs.rows.match_rows.Tie as tie
 
 abbrev Inv-loop : tie.InvT-loop
-Inv-loop pool p e seats m rows caps₀ marks₀ s₀ caps marks s = (s ≤ seats) × (length caps ≡ 1024) × (length (marks .words) ≡ 16) × Matched (read p e pool) m s caps (marks .words)
+Inv-loop pool p e seats m rows caps₀ index parts words₀ s₀ caps words s = (s ≤ seats) × (length caps ≡ 1024) × (length words ≡ 16) × Matched (read p e pool) m s caps words
 
 abbrev μ-loop : tie.MeasureT-loop
-μ-loop pool p e seats m rows caps₀ marks₀ s₀ caps marks s = seats - s
+μ-loop pool p e seats m rows caps₀ index parts words₀ s₀ caps words s = seats - s
 
-new-requires : tie.Need-new-requires Inv-loop μ-loop
-new-requires c κs = search needs
+parts-for-requires : tie.Need-parts-for-requires Inv-loop μ-loop
+parts-for-requires c κs = search needs
+
+count-rows-requires : tie.Need-count-rows-requires Inv-loop μ-loop
+count-rows-requires c κs = (c .before .before .before .before .pre .2, c .before .before .before .before .pre .3, c .before .parts-for .ensures .0, c .before .parts-for .ensures .1)
+
+sum-counts-requires : tie.Need-sum-counts-requires Inv-loop μ-loop
+sum-counts-requires c κs = search needs
 
 loop-holds : tie.Need-loop-holds Inv-loop μ-loop
-loop-holds c = (omega arith, c .before .before .before .pre .4, ap length (c .new .ensures), matched-none _ _ _ _ (c .new .ensures))
+loop-holds c = (omega arith, c .before .before .before .before .before .before .before .pre .4, refl, matched-none _ _ _ _ refl)
 
 publisher-requires : tie.Need-publisher-requires Inv-loop μ-loop
 publisher-requires c κs = search needs
 
-find-requires : tie.Need-find-requires Inv-loop μ-loop
-find-requires c κs = (c .before .before .before .before .before .before .pre .2, c .before .before .before .before .before .before .pre .3)
+find-row-requires : tie.Need-find-row-requires Inv-loop μ-loop
+find-row-requires c κs = (c .before .before .before .before .before .before .before .before .parts-for .ensures .0, c .before .before .before .before .before .before .before .before .parts-for .ensures .1, c .before .before .before .before .before .before .before .before .before .before .before .pre .2, c .before .before .before .before .before .before .before .before .before .before .before .pre .3)
 
-with-found-requires : tie.Need-with-found-requires Inv-loop μ-loop
-with-found-requires c κs = search needs
+mark-found-requires : tie.Need-mark-found-requires Inv-loop μ-loop
+mark-found-requires c κs = search needs
 
 cap-in-requires : tie.Need-cap-in-requires Inv-loop μ-loop
-cap-in-requires c κs = (c .before .before .before .before .before .before .before .before .pre .2, lookup-inside _ _ _ _ (c .before .before .before .before .before .before .before .before .pre .3) (c .before .find .ensures))
+cap-in-requires c κs = (c .before .before .before .before .before .before .before .before .before .before .before .before .before .before .pre .2, lookup-inside _ _ _ _ (c .before .before .before .before .before .before .before .before .before .before .before .before .before .before .pre .3) (c .before .before .find-row .ensures))
 
 mul-caps : tie.Need-mul-caps Inv-loop μ-loop
 mul-caps c = search needs
@@ -49,12 +56,12 @@ loop-less c = search needs
 
 loop-again : tie.Need-loop-again Inv-loop μ-loop
 loop-again c =
-    let at = c .before .before .before .before .before .loop in
-    let h : at .s < 1024 = omega (arith, c .before .before .before .before .loop-test .taken, c .before .before .before .before .before .before .before .before .before .pre) in (
+    let at = c .before .before .before .before .before .before .before .loop in
+    let h : at .s < 1024 = omega (arith, c .before .before .before .before .before .before .loop-test .taken, c .before .before .before .before .before .before .before .before .before .before .before .before .before .before .before .pre) in (
       omega arith,
       simp length-set (at .inv .1),
-      ap length (c .before .with-found .ensures) ∙ length-with (at .marks .words) (c .before .before .find .result) ∙ at .inv .2,
-      matched-more _ _ _ _ _ (at .inv .3) (c .before .before .before .before .before .before .before .before .before .pre .2) (at .inv .2) _ (key-is _ _ _ (c .before .before .before .publisher .ensures)) (c .before .before .find .result) _ (c .before .before .before .before .before .before .before .before .before .pre .3) (c .before .before .find .ensures) _ (c .before .with-found .ensures) _ (c .cap-in .ensures) (omega arith),
+      ap length (c .before .mark-found .ensures) ∙ length-with (at .words) (c .before .before .before .find-row .result) ∙ at .inv .2,
+      matched-more _ _ _ _ _ (at .inv .3) (c .before .before .before .before .before .before .before .before .before .before .before .before .before .before .before .pre .2) (at .inv .2) _ (key-is _ _ _ (c .before .before .before .before .before .publisher .ensures)) (c .before .before .before .find-row .result) _ (c .before .before .before .before .before .before .before .before .before .before .before .before .before .before .before .pre .3) (c .before .before .before .find-row .ensures) _ (c .before .mark-found .ensures) _ (c .cap-in .ensures) (omega arith),
     )
 
 returns : tie.Need-returns Inv-loop μ-loop
@@ -66,11 +73,13 @@ match-rows-spec =
     (tie.spec
     Inv-loop
     μ-loop
-    new-requires
+    parts-for-requires
+    count-rows-requires
+    sum-counts-requires
     loop-holds
     publisher-requires
-    find-requires
-    with-found-requires
+    find-row-requires
+    mark-found-requires
     cap-in-requires
     mul-caps
     element-write-caps

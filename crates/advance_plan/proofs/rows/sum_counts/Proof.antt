@@ -1,0 +1,59 @@
+-- `advance_plan::rows::sum_counts` meets its contract. Assumes nothing.
+use Prim.Native.Nat.{_-_, _≤_}
+use borrow.Author.Needs.{needs}
+use borrow.Author.Needs.{needs}
+use Rattle.advance_plan.proofs.rows.sum_counts.Statement.{statement}
+use Rattle.advance_plan.proofs.rows.sum_counts.Tie as tie
+
+abbrev Inv-loop : tie.InvT-loop
+Inv-loop parts index₀ sum₀ part₀ index sum part = part ≤ parts
+
+abbrev μ-loop : tie.MeasureT-loop
+μ-loop parts index₀ sum₀ part₀ index sum part = parts - part
+
+loop-holds : tie.Need-loop-holds Inv-loop μ-loop
+loop-holds c = search needs
+
+mul-wrapping-add-u16 : tie.Need-mul-wrapping-add-u16 Inv-loop μ-loop
+mul-wrapping-add-u16 c = search needs
+
+element-copy-out-wrapping-add-u16 : tie.Need-element-copy-out-wrapping-add-u16 Inv-loop μ-loop
+element-copy-out-wrapping-add-u16 c = search needs
+
+wrapping-add-u16-requires : tie.Need-wrapping-add-u16-requires Inv-loop μ-loop
+wrapping-add-u16-requires c κs = search needs
+
+mul-index : tie.Need-mul-index Inv-loop μ-loop
+mul-index c = search needs
+
+element-write-index : tie.Need-element-write-index Inv-loop μ-loop
+element-write-index c = search needs
+
+add-part : tie.Need-add-part Inv-loop μ-loop
+add-part c = search needs
+
+loop-less : tie.Need-loop-less Inv-loop μ-loop
+loop-less c = search needs
+
+loop-again : tie.Need-loop-again Inv-loop μ-loop
+loop-again c = search needs
+
+returns : tie.Need-returns Inv-loop μ-loop
+returns c = search needs
+
+pub sum-counts-spec : {M : Type 1} → statement M
+sum-counts-spec =
+    tie.close
+    (tie.spec
+    Inv-loop
+    μ-loop
+    loop-holds
+    mul-wrapping-add-u16
+    element-copy-out-wrapping-add-u16
+    wrapping-add-u16-requires
+    mul-index
+    element-write-index
+    add-part
+    loop-less
+    loop-again
+    returns)
