@@ -3,9 +3,14 @@
 //! says how far the code is moved.
 #[path = "../../oracle/driver/accounts.rs"]
 mod accounts;
+mod bench;
+mod bounds;
+mod calls;
+mod case;
 mod cases;
 #[path = "../../oracle/driver/derived.rs"]
 mod derived;
+mod growth;
 #[path = "../../oracle/driver/handed.rs"]
 mod handed;
 mod inputs;
@@ -13,19 +18,19 @@ mod inputs;
 #[path = "../../oracle/driver/journal.rs"]
 mod journal;
 mod mirror;
+mod numbers;
 mod original;
+mod pools;
 #[allow(dead_code)]
 #[path = "../../oracle/driver/refusal.rs"]
 mod refusal;
 mod timed;
 
 use {
-    accounts::{zeroed, Held},
-    cases::Case,
-    integrity_pool::state::pool::PoolData,
-    refusal::Stop,
-    std::{cell::RefCell, process::ExitCode},
-    timed::{Run, Start},
+    bench::{Bench, Checked},
+    case::Case,
+    pools::Pools,
+    std::process::ExitCode,
 };
 
 // Bytes that are never run: the code behind them, of both sides, is moved by so many.
@@ -36,101 +41,93 @@ std::arch::global_asm!(concat!(
     "\n.text"
 ));
 
-/// Samples of each side.
-const SAMPLES: usize = 101;
+/// What is done with a case: the line that it comes to.
+type Each = fn(&Bench, &Case) -> Checked<String>;
 
-/// What is wrong with a case.
-type Checked<T> = Result<T, String>;
-
-struct Bench {
-    image: Vec<u64>,
-    /// Both sides work in this memory.
-    pool:  Held<PoolData>,
+/// Its name, its size, the mirror's and the Rust's nanoseconds for one call, those of the Rust's one call
+/// that was compared, and the note.
+fn time(bench: &Bench, case: &Case) -> Checked<String> {
+    let once = bench.compare(case, 1)?;
+    if case.calls() > 1 {
+        bench.compare(case, case.calls())?;
+    }
+    let times = bench.time(case)?;
+    let size = case.size.map_or(String::new(), |size| size.to_string());
+    let theirs = times.theirs.map_or(String::new(), |nanos| nanos.to_string());
+    Ok(format!("{}\t{size}\t{}\t{theirs}\t{once}\t{}", case.name, times.ours, case.note))
 }
 
-impl Bench {
-    fn start(&self, calls: u64) -> Start<'_> {
-        let start = Start { pool: &self.pool, image: &self.image, calls };
-        start.put_back();
-        start
-    }
+/// The mirror's call, once; the case's name. Callgrind dumps what it has counted where this function,
+/// which it knows by its name, is left.
+#[inline(never)]
+fn count(bench: &Bench, case: &Case) -> Checked<String> {
+    bench.mirror(case, 1).map(|_| case.name.to_string())
+}
 
-    fn mirror(&self, case: &Case, calls: u64) -> Checked<Run> {
-        let run = mirror::run(&self.start(calls), &case.call);
-        run.map_err(|n| format!("the mirror refuses with {n}"))
-    }
-
-    fn original(&self, case: &Case, calls: u64) -> Checked<Run> {
-        let run = original::run(&self.start(calls), &case.call);
-        run.map_err(|stop| match stop {
-            Stop::Number(n) => format!("the Rust refuses with {n}"),
-            Stop::Undecided(what) => format!("the Rust ends with {what}"),
-        })
-    }
-
-    /// Both sides from the same image: what they answer and every word that they leave. Answers the
-    /// nanoseconds of the Rust.
-    fn compare(&self, case: &Case, calls: u64) -> Checked<u64> {
-        let ours = self.mirror(case, calls)?;
-        let left = inputs::words(&self.pool.borrow()).to_vec();
-        let theirs = self.original(case, calls)?;
-        if ours.answer != theirs.answer {
-            return Err(format!("the mirror answers {:?}, the Rust {:?}", ours.answer, theirs.answer));
-        }
-        let pool = self.pool.borrow();
-        let words = left.iter().zip(inputs::words(&pool)).enumerate();
-        match words.into_iter().find(|(_, (a, b))| a != b) {
-            Some((i, (a, b))) => Err(format!("word {i} is {a} in the mirror, {b} in the Rust")),
-            None => Ok(theirs.nanos),
-        }
-    }
-
-    /// Medians of the mirror and, unless it is left out, of the Rust, which take turns.
-    fn time(&self, case: &Case) -> Checked<(f64, Option<f64>)> {
-        let (mut ours, mut theirs) = (Vec::new(), Vec::new());
-        for sample in 0..SAMPLES {
-            for turn in 0..2 {
-                if (sample + turn) % 2 == 0 {
-                    ours.push(self.mirror(case, case.calls)?.nanos);
-                } else if case.alone.is_none() {
-                    theirs.push(self.original(case, case.calls)?.nanos);
-                }
-            }
-        }
-        let each = |nanos: u64| nanos as f64 / case.calls as f64;
-        Ok((each(median(ours).unwrap_or(0)), median(theirs).map(each)))
+fn each(name: &str) -> Option<Each> {
+    match name {
+        "time" => Some(time),
+        "count" => Some(count),
+        _ => None,
     }
 }
 
-fn median(mut nanos: Vec<u64>) -> Option<u64> {
-    nanos.sort_unstable();
-    nanos.get(nanos.len() / 2).copied()
+fn table<'a>(name: &str, pools: &'a Pools) -> Option<Vec<Case<'a>>> {
+    match name {
+        "calls" => Some(cases::all(pools)),
+        "seats" => Some(growth::seats(pools)),
+        "rows" => Some(growth::rows(pools)),
+        "positions" => Some(growth::positions(pools)),
+        _ => None,
+    }
 }
 
-/// A line for each case: its name, the mirror's and the Rust's nanoseconds for one call, those of the
-/// Rust's one call that was compared, and why the Rust is not timed, if it is not.
-fn report(bench: &Bench, cases: &[Case]) -> Checked<()> {
-    for case in cases {
-        let named = |what| format!("{}: {what}", case.name);
-        let once = bench.compare(case, 1).map_err(named)?;
-        if case.calls > 1 {
-            bench.compare(case, case.calls).map_err(named)?;
-        }
-        let (ours, theirs) = bench.time(case).map_err(named)?;
-        let theirs = theirs.map_or("-".to_string(), |nanos| nanos.to_string());
-        println!("{}\t{ours}\t{theirs}\t{once}\t{}", case.name, case.alone.unwrap_or_default());
+/// The mirror's nanoseconds for as many epochs as it may pass and for those of one ring, in turns.
+fn passing(pools: &Pools) -> Checked<()> {
+    let [long, ring] = cases::passing(pools);
+    let [long, ring] = Bench::new().side_by_side(&long, &ring)?;
+    println!("{long}\t{ring}");
+    Ok(())
+}
+
+/// What the words alone cost: a name and nanoseconds in each line.
+fn bounds(pools: &Pools) -> Checked<()> {
+    for (name, nanos) in bounds::all(&pools.mixed)? {
+        println!("{name}\t{nanos}");
     }
     Ok(())
 }
 
+fn report(each: Each, cases: &[Case]) -> Checked<()> {
+    let bench = Bench::new();
+    for case in cases {
+        let line = each(&bench, case).map_err(|what| format!("{}: {what}", case.label()))?;
+        println!("{line}");
+    }
+    Ok(())
+}
+
+/// None where the words are not understood.
+fn run(words: &[&str], pools: &Pools) -> Option<Checked<()>> {
+    match words {
+        ["passing"] => Some(passing(pools)),
+        ["bounds"] => Some(bounds(pools)),
+        [what, cases] => Some(report(each(what)?, &table(cases, pools)?)),
+        _ => None,
+    }
+}
+
 fn main() -> ExitCode {
     refusal::install_hook();
-    let image = inputs::full_pool();
-    let cases = cases::all(&image);
-    let bench = Bench { image, pool: RefCell::new(unsafe { zeroed() }) };
-    match report(&bench, &cases) {
-        Ok(()) => ExitCode::SUCCESS,
-        Err(what) => {
+    let args: Vec<_> = std::env::args().skip(1).collect();
+    let words: Vec<_> = args.iter().map(String::as_str).collect();
+    match run(&words, &pools::pools()) {
+        Some(Ok(())) => ExitCode::SUCCESS,
+        None => {
+            eprintln!("bench: passing, bounds, or time or count and calls, seats, rows or positions");
+            ExitCode::from(2)
+        }
+        Some(Err(what)) => {
             eprintln!("different: {what}");
             ExitCode::FAILURE
         }

@@ -1,8 +1,10 @@
 //! The mirror's static library: its functions, and runs of them.
 use {
     crate::{
-        inputs::{key_words, E, P, SECONDS, UNLOCKING},
+        inputs::{SECONDS, UNLOCKING},
         journal::{Advance, Call, Change, Payment, SetStakeAccount, Slash, StakeAccount},
+        numbers::key_words,
+        pools::{E, P},
         timed::{Run, Start},
     },
     anchor_lang::prelude::Pubkey,

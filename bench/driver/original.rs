@@ -5,10 +5,10 @@ use {
         accounts::{caps, context, positions, set_now},
         derived,
         handed,
-        inputs::{words, words_mut},
         journal::{Advance, Call, Change, Payment, SetStakeAccount, Slash, StakeAccount},
+        pools::{words, words_mut},
         refusal::{guard, Asked},
-        timed::{Run, Start},
+        timed::{memory, Run, Start},
     },
     anchor_lang::{given, prelude::Pubkey},
     integrity_pool::{integrity_pool as handlers, state::delegation_record::DelegationRecord},
@@ -50,13 +50,23 @@ fn advance(from: &Start, a: &Advance) -> Asked<Run> {
     Ok(Run { answer: [&[y, aside], &counts[..]].concat(), nanos })
 }
 
-/// The Rust has none. Its advance is asked, of the pool with its sides rolled, as the oracle does.
+/// What an advance from this image sets aside.
+pub fn set_aside(image: &[u64], a: &Advance) -> u64 {
+    let start = Start { pool: &memory(), image, calls: 1 };
+    start.put_back();
+    advance(&start, a).ok().expect("an advance that is accepted").answer[1]
+}
+
+/// The Rust has none. Its advance is timed, and then asked of the pool with its sides rolled, as the
+/// oracle does.
 fn forecast(from: &Start, a: &Advance) -> Asked<Run> {
+    let Run { nanos, .. } = advance(from, a)?;
+    from.put_back();
     derived::roll_sides(&mut from.pool.borrow_mut());
     let image = words(&from.pool.borrow()).to_vec();
-    let run = advance(&Start { image: &image, ..*from }, a);
+    let rolled = advance(&Start { image: &image, ..*from }, a)?;
     from.put_back();
-    run.map(|r| Run { answer: vec![r.answer[1]], nanos: r.nanos })
+    Ok(Run { answer: vec![rolled.answer[1]], nanos })
 }
 
 /// advance_delegation_record. All calls of a run pay the same, each from the record as given.

@@ -1,12 +1,17 @@
 //! Time taken.
 use {
     crate::{
-        accounts::Held,
-        inputs::{words_mut, WORDS},
+        accounts::{zeroed, Held},
+        pools::{words_mut, WORDS},
     },
     integrity_pool::state::pool::PoolData,
-    std::{hint::black_box, time::Instant},
+    std::{cell::RefCell, hint::black_box, time::Instant},
 };
+
+/// Memory for a pool.
+pub fn memory() -> Held<PoolData> {
+    RefCell::new(unsafe { zeroed() })
+}
 
 /// What a run of calls came to.
 pub struct Run {
