@@ -29,7 +29,7 @@ use Rattle.event_walk.proofs.WalkLaws.{meets-le}
 use Rattle.event_walk.proofs.SpanLaws.{reach-draws, reach-unfit, walk-fits, walk-unfit, walk-draws}
 use Rattle.event_amounts.specs.Gathered.{GatheredOf, NextOf}
 
-zeros-at : (n k : ℕ) → _≡_ {A = ℕ} (getD (replicate n 0) k 0) 0
+pub zeros-at : (n k : ℕ) → _≡_ {A = ℕ} (getD (replicate n 0) k 0) 0
 zeros-at zero k = refl
 zeros-at (suc n) zero = refl
 zeros-at (suc n) (suc k) = zeros-at n k

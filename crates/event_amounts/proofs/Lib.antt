@@ -1,3 +1,4 @@
 pub mod NextLaws
 pub mod GatherLaws
+pub mod TurnLaws
 pub mod ReadLaws

@@ -4,14 +4,17 @@ ghost use lib.ListN.{length};
 ghost use Rattle.image.specs.Layout.{read};
 ghost use Rattle.image.specs.Seats.{Sized};
 ghost use Rattle.event_amounts.specs.Gathered.{GatheredOf, NextOf};
+use crate::each::gather_each;
+use crate::turn::four_fit;
+use crate::turn::turn_of;
+use crate::turn::walk_four;
 use event_walk::EventAmounts;
 use event_walk::newest::read_newest;
-use event_walk::span::Reach;
-use event_walk::span::span_of;
-use event_walk::walk;
 use positions::Key;
 use positions::list::in_publisher;
-use positions::list::position_at;
+
+mod each;
+mod turn;
 
 // The first position from `from` on that is with the publisher, or the number of positions.
 fn next_match(words: &[u64], from: usize, publisher: Key) -> usize
@@ -30,7 +33,8 @@ fn next_match(words: &[u64], from: usize, publisher: Key) -> usize
     i
 }
 
-// The walks of all positions with the publisher, in their order. The events are read once for all of them.
+// The walks of all positions with the publisher, in their order, four at a time. The events are read once for all of them. No slot has more than
+// `drawn`, what the positions draw in all. Past 64 bits the slots' amounts may still fit, and each is tested.
 pub fn gather(
     pool: &[u64],
     p: usize,
@@ -46,26 +50,27 @@ pub fn gather(
     let newest = read_newest(pool, p, e, from_epoch);
     let epochs = newest.epochs;
     let meets = newest.meets;
-    let reads = newest.reads;
-    let count = words.len() / 9;
-    let mut gathered = EventAmounts {
-        fits: true,
-        amounts: [0u64; 52],
-        reads: 0,
-    };
+    let mut amounts = [0u64; 52];
+    let mut drawn: u64 = 0;
+    let mut walks: usize = 0;
     let mut i = next_match(words, 0, publisher);
-    while i < count {
-        let position = position_at(words, i * 9);
-        let reach = span_of(&epochs, meets, position, unlocking_duration);
-        let Reach::Draws(s) = reach else {
-            gathered.fits = false;
-            return gathered;
-        };
-        gathered = walk(&epochs, meets, reads, s.amount, s.first, s.last, gathered);
-        if !gathered.fits {
-            return gathered;
+    while i < words.len() / 9 {
+        let a = turn_of(&epochs, meets, words, i, publisher, unlocking_duration);
+        let b = turn_of(&epochs, meets, words, a.next, publisher, unlocking_duration);
+        let c = turn_of(&epochs, meets, words, b.next, publisher, unlocking_duration);
+        let d = turn_of(&epochs, meets, words, c.next, publisher, unlocking_duration);
+        if !four_fit(drawn, a, b, c, d) {
+            return gather_each(pool, p, e, words, publisher, from_epoch, unlocking_duration);
         }
-        i = next_match(words, i + 1, publisher);
+        let walked = walk_four(&epochs, a, b, c, d, amounts);
+        amounts = walked;
+        drawn = drawn + a.amount + b.amount + c.amount + d.amount;
+        walks = walks + a.walks + b.walks + c.walks + d.walks;
+        i = d.next;
     }
-    gathered
+    EventAmounts {
+        fits: true,
+        amounts,
+        reads: walks * newest.reads,
+    }
 }

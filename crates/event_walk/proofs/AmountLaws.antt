@@ -14,7 +14,8 @@ use Rattle.types.specs.Base.{word, if_then_else_, allBelow}
 use Rattle.types.proofs.Below.{all-none, all-more, all-not}
 use Rattle.event_walk.specs.declared.EventAmounts.{EventAmounts}
 use Rattle.event_walk.specs.Span.{unitsIn}
-use Rattle.event_walk.specs.Walked.{WalkedOf}
+use Rattle.event_walk.specs.Walked.{AddedOf, WalkedOf}
+use Rattle.event_walk.proofs.SpanLaws.{units-most}
 
 -- an array in a struct has the length of its type
 pub array-long : (xs : List ℕ) → length (map (λ (x : ℕ). x) xs) ≡ 52 → length xs ≡ 52
@@ -79,6 +80,23 @@ module _ (epochs : List ℕ) (amount first last : ℕ) (start : List ℕ) where
             (sym q) (now-same l)
         go j (no n) = now-other j n
 
+    -- where the amount can be added to each, every sum fits
+    pub sum-fits : ((j : ℕ) → getD start j 0 + amount < word) → getD now k 0 + u < word
+    sum-fits room = omega (arith, as-was, room k, units-most amount first last (getD epochs k 0))
+
+  pub added-all : (now : List ℕ) (k meets : ℕ) → AddedTo epochs amount first last start now k → k ≡ meets
+      → AddedOf epochs meets amount first last start now
+  added-all now k meets added q =
+      subst (λ (m : ℕ). AddedOf epochs m amount first last start now) q (added .holds)
+
+  -- a walk adds no more than the amount
+  pub added-most : (r : List ℕ) (meets : ℕ) → AddedOf epochs meets amount first last start r → (k : ℕ) → getD r k 0 ≤ getD start k 0 + amount
+  added-most r meets added k = omega (arith, added k, go (ltb k meets))
+    where
+      go : (t : Bool) → (if t then units epochs amount first last k else 0) ≤ amount
+      go true = units-most amount first last (getD epochs k 0)
+      go false = omega arith
+
 module _ (epochs : List ℕ) (meets each amount first last : ℕ) (start : EventAmounts) where
   -- a sum that is no word
   pub walked-over : (r : EventAmounts) (now : List ℕ) (k u : ℕ) → AddedTo epochs amount first last (start .amounts) now k
@@ -99,4 +117,4 @@ module _ (epochs : List ℕ) (meets each amount first last : ℕ) (start : Event
   walked-all r k added q e s =
       let a : AddedTo epochs amount first last (start .amounts) (r .amounts) meets
       = subst (λ (m : ℕ). AddedTo epochs amount first last (start .amounts) (r .amounts) m) q added in
-      record { fits = e ∙ sym (a .fits); amounts = λ t j. a .holds j; reads = λ t. s }
+      record { fits = e ∙ sym (a .fits); amounts = λ t. a .holds; reads = λ t. s }

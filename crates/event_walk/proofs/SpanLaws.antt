@@ -40,6 +40,15 @@ module _ (amount first last epoch : ℕ) where
   unfolding unitsIn
   units-within h l = simp (le-ltb _ _ h, le-ltb _ _ l)
 
+  pub units-most : unitsIn amount first last epoch ≤ amount
+  unfolding unitsIn
+  units-most = go (ltb epoch first) (ltb last epoch)
+    where
+      go : (a b : Bool) → (if a then 0 else if b then 0 else amount) ≤ amount
+      go true b = omega arith
+      go false true = omega arith
+      go false false = omega arith
+
 -- nothing in the empty span
 units-none : (amount epoch : ℕ) → 0 ≡ unitsIn amount 1 0 epoch
 units-none amount epoch = go (ltb epoch 1) refl

@@ -25,9 +25,13 @@ pub record NewestOf (E : ℕ) (w : Words) (from : ℕ) (r : Newest) : Type 0 whe
   pub epochs : (k : ℕ) → k < r .meets → getD (r .epochs) k 0 ≡ walkEpoch E w k
   pub words : (k : ℕ) → k < r .meets → getD (r .epochs) k 0 < word
 
--- what one position's walk makes of the amounts so far, and of the read count
+-- what one position's walk adds to the amounts so far
+abbrev pub AddedOf : (epochs : List ℕ) (meets amount first last : ℕ) (start r : List ℕ) → Type 0
+AddedOf epochs meets amount first last start r =
+    (k : ℕ) → getD r k 0 ≡ getD start k 0 + (if ltb k meets then unitsIn amount first last (getD epochs k 0) else 0)
+
+-- what it makes of them and of the read count, where sums may be past 64 bits
 pub record WalkedOf (epochs : List ℕ) (meets each amount first last : ℕ) (start r : EventAmounts) : Type 0 where
   pub fits : r .fits ≡ allBelow meets (λ k. ltb (getD (start .amounts) k 0 + unitsIn amount first last (getD epochs k 0)) word)
-  pub amounts : r .fits ≡ true → (k : ℕ)
-      → getD (r .amounts) k 0 ≡ getD (start .amounts) k 0 + (if ltb k meets then unitsIn amount first last (getD epochs k 0) else 0)
+  pub amounts : r .fits ≡ true → AddedOf epochs meets amount first last (start .amounts) (r .amounts)
   pub reads : r .fits ≡ true → r .reads ≡ start .reads + each

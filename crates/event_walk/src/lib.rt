@@ -1,10 +1,11 @@
 // Item 8: the walk of one position over the newest events.
 ghost use mathlib.Core.Path.{_≡_};
 ghost use mathlib.Core.Bool.{true};
-ghost use Prim.Native.Nat.{_+_, _≤_, _<_};
+ghost use Prim.Native.Nat.{ℕ, _+_, _≤_, _<_};
+ghost use lib.ListN.{getD};
 ghost use Rattle.types.specs.Base.{word};
 ghost use Rattle.event_walk.specs.Span.{unitsIn};
-ghost use Rattle.event_walk.specs.Walked.{WalkedOf};
+ghost use Rattle.event_walk.specs.Walked.{WalkedOf, AddedOf};
 
 pub mod newest;
 pub mod span;
@@ -57,4 +58,26 @@ pub fn walk(
     }
     walked.reads = walked.reads + reads;
     walked
+}
+
+// The same where no amount can pass 64 bits: the array alone, which is not copied between walks that follow each other.
+pub fn walk_fitting(
+    epochs: &[u64; 52],
+    meets: usize,
+    amount: u64,
+    first: u64,
+    last: u64,
+    start: [u64; 52],
+) -> [u64; 52]
+    requires { ⌜ (meets ≤ 52) × ((k : ℕ) → getD start k 0 + amount < word) ⌝ }
+    ensures { λ r. ⌜ AddedOf (now (epochs .entry)) meets amount first last start r ⌝ }
+{
+    let mut amounts = start;
+    let mut j = 0;
+    while j < meets {
+        let units = units_in(epochs[j], amount, first, last);
+        amounts[j] = amounts[j] + units;
+        j += 1;
+    }
+    amounts
 }

@@ -67,7 +67,7 @@ fn none_listed() -> Listed
     }
 }
 
-// One record's walk, as in `event_amounts::gather`.
+// One record's walk, as in `event_amounts::each::gather_each`.
 fn walk_record(walks: Walks, position: Position, start: EventAmounts) -> EventAmounts
     requires { ⌜ (walks .newest .meets ≤ 52) × (start .fits ≡ true) × (start .reads + walks .newest .reads < word) ⌝ }
     ensures { λ r. ⌜ RecordWalked walks position start r ⌝ }

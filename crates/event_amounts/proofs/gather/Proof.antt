@@ -1,21 +1,48 @@
--- `event_amounts::gather` meets its contract. The invariant: the walks of the positions in front of i are done, and position i is the next
--- with the publisher. The measure is how many positions are left. Assumes nothing.
-use mathlib.Core.Path.{refl}
-use Prim.Native.Nat.{_-_}
-use native.Mathlib.Omega.{arith}
-use borrow.Author.Needs.{needs}
-use borrow.Author.Tests.{not-true, not-false}
+-- `event_amounts::gather` meets its contract. The invariant: the walks of the positions in front of i are done, and no amount is past what
+-- they have drawn in all. The measure is how many positions are left. Assumes nothing.
+use Prim.Native.Nat.{_-_, _/_}
+use borrow.Author.Tests.{not-false}
+use denote.Ref.{now}
+use lib.ListN.{length}
 use Rattle.image.specs.Layout.{read}
-use Rattle.event_amounts.proofs.GatherLaws.{Ahead, gather-start, gather-skip, reads-fit, gather-unfit, gather-walked, gather-past, gather-end}
+use Rattle.event_amounts.proofs.GatherLaws.{gather-end}
+use Rattle.event_amounts.proofs.TurnLaws.{Walked, Round, walked-start, walked-reads, round-room, round-walked, round-on, round-few}
+use borrow.Author.Needs.{needs}
+use native.Mathlib.Omega.{arith}
 use Rattle.event_amounts.proofs.gather.Statement.{statement}
 use Rattle.event_amounts.proofs.gather.Tie as tie
 
 abbrev Inv-loop : tie.InvT-loop
-Inv-loop pool p e words publisher from-epoch unlocking-duration epochs meets reads count gathered₀ i₀ gathered i =
-    Ahead e (read p e pool) words publisher from-epoch unlocking-duration i gathered
+Inv-loop pool p e words publisher from-epoch unlocking-duration newest epochs meets amounts₀ drawn₀ walks₀ i₀ amounts drawn walks i =
+    Walked e (read p e pool) words publisher from-epoch unlocking-duration (newest .reads) i amounts drawn walks
 
 abbrev μ-loop : tie.MeasureT-loop
-μ-loop pool p e words publisher from-epoch unlocking-duration epochs meets reads count gathered₀ i₀ gathered i = count - i
+μ-loop pool p e words publisher from-epoch unlocking-duration newest epochs meets amounts₀ drawn₀ walks₀ i₀ amounts drawn walks i =
+    length words / 9 - i
+
+-- four turns from where the loop stands, which fit
+round : (c : tie.Else1 Inv-loop μ-loop) →
+    let t = c .before .before in
+    let s = t .before .before .before .before .before .before .before .before .before in
+    let a = s .before .before .before .before .before .before .args in
+    Round (a .e) (read (a .p) (a .e) (now (a .pool))) (now (a .words)) (a .publisher) (a .from-epoch) (a .unlocking-duration)
+    (s .before .before .before .read-newest .result) (s .loop .i) (s .loop .amounts) (s .loop .drawn) (s .loop .walks)
+    (t .before .before .before .before .before .before .turn-of .result) (t .before .before .before .before .turn-of2 .result)
+    (t .before .before .turn-of3 .result) (t .turn-of4 .result)
+round c =
+    let t = c .before .before in
+    let s = t .before .before .before .before .before .before .before .before .before in
+    record {
+      newest = s .before .before .before .read-newest .ensures;
+      so-far = s .loop .inv;
+      short = s .before .before .before .before .before .before .pre .1;
+      more = omega (arith, t .before .before .before .before .before .before .before .before .loop-test .taken);
+      one = t .before .before .before .before .before .before .turn-of .ensures;
+      two = t .before .before .before .before .turn-of2 .ensures;
+      three = t .before .before .turn-of3 .ensures;
+      four = t .turn-of4 .ensures;
+      fit = rw (not-false (c .before .four-fit .result) (c .if1 .left)) at (c .before .four-fit .ensures);
+    }
 
 read-newest-requires : tie.Need-read-newest-requires Inv-loop μ-loop
 read-newest-requires c κs = c .before .before .pre .0
@@ -24,71 +51,72 @@ next-match-requires : tie.Need-next-match-requires Inv-loop μ-loop
 next-match-requires c κs = omega arith
 
 loop-holds : tie.Need-loop-holds Inv-loop μ-loop
-loop-holds c = gather-skip _ _ _ _ _ _ _ _ _ (gather-start _ _ _ _ _ _) (c .next-match .ensures)
+loop-holds c = walked-start _ _ _ _ _ _ _ _ (c .next-match .ensures)
 
-mul-position-at : tie.Need-mul-position-at Inv-loop μ-loop
-mul-position-at c = omega arith
+turn-of-requires : tie.Need-turn-of-requires Inv-loop μ-loop
+turn-of-requires c κs = c .before .before .before .before .before .read-newest .ensures .few
 
-position-at-requires : tie.Need-position-at-requires Inv-loop μ-loop
-position-at-requires c κs = omega arith
+turn-of-requires-2 : tie.Need-turn-of-requires-2 Inv-loop μ-loop
+turn-of-requires-2 c κs = c .before .before .before .before .before .before .before .read-newest .ensures .few
 
-span-of-requires : tie.Need-span-of-requires Inv-loop μ-loop
-span-of-requires c κs = c .before .before .before .before .before .before .read-newest .ensures .few
+turn-of-requires-3 : tie.Need-turn-of-requires-3 Inv-loop μ-loop
+turn-of-requires-3 c κs = c .before .before .before .before .before .before .before .before .before .read-newest .ensures .few
 
-enum-told : tie.Need-enum-told Inv-loop μ-loop
-enum-told c = search needs
+turn-of-requires-4 : tie.Need-turn-of-requires-4 Inv-loop μ-loop
+turn-of-requires-4 c κs = c .before .before .before .before .before .before .before .before .before .before .before .read-newest .ensures .few
+
+four-fit-requires : tie.Need-four-fit-requires Inv-loop μ-loop
+four-fit-requires c κs = search needs
+
+gather-each-requires : tie.Need-gather-each-requires Inv-loop μ-loop
+gather-each-requires c κs =
+    c .before .before .before .before .before .before .before .before .before .before .before .before .before .before .before .before .before .pre
 
 returns : tie.Need-returns Inv-loop μ-loop
-returns c =
-    let s = c .before .before in
-    let newest = s .before .before .before .before .before .before .before .read-newest .ensures in
-    let ahead = s .before .before .before .before .loop .inv in
-    gather-unfit _ _ _ _ _ _ _ newest _ _ ahead (omega arith) _ (s .before .before .position-at .ensures) _ (s .span-of .ensures) _
-    (c .enum-told .given .1) refl
+returns c = c .gather-each .ensures
 
-enum-known-reach : tie.Need-enum-known-reach Inv-loop μ-loop
-enum-known-reach c = search needs
+walk-four-requires : tie.Need-walk-four-requires Inv-loop μ-loop
+walk-four-requires c κs = round-room (round (c .before))
 
-walk-requires : tie.Need-walk-requires Inv-loop μ-loop
-walk-requires c κs =
-    let s = c .before .before .before .before in
-    let newest = s .before .before .before .before .before .before .before .read-newest .ensures in
-    let ahead = s .before .before .before .before .loop .inv in
-    let few = s .before .before .before .before .before .before .before .before .before .before .pre .1 in
-    (newest .few, ahead .gathering .fits, reads-fit _ _ _ _ _ _ _ newest _ _ (ahead .gathering) (omega arith))
+add-drawn : tie.Need-add-drawn Inv-loop μ-loop
+add-drawn c = omega (arith, round (c .before .before .before) .fit .4)
 
-returns-2 : tie.Need-returns-2 Inv-loop μ-loop
-returns-2 c =
-    let s = c .before .before .before .before .before .before .before in
-    let newest = s .before .before .before .before .before .before .before .read-newest .ensures in
-    let ahead = s .before .before .before .before .loop .inv in
-    gather-past _ _ _ _ _ _ _ newest _ _ ahead (omega arith) _ (s .before .before .position-at .ensures) _ (s .span-of .ensures) _
-    (c .before .before .before .before .before .reach .given .1) _ (c .before .before .walk .ensures) (not-true _ (c .if1 .taken))
+add-drawn-2 : tie.Need-add-drawn-2 Inv-loop μ-loop
+add-drawn-2 c = omega (arith, round (c .before .before .before .before) .fit .4)
 
-add-next-match : tie.Need-add-next-match Inv-loop μ-loop
-add-next-match c =
-    let s = c .before .before .before .before .before .before .before in
-    omega (arith, s .before .before .before .before .before .before .before .before .before .before .pre .1)
+add-drawn-3 : tie.Need-add-drawn-3 Inv-loop μ-loop
+add-drawn-3 c = omega (arith, round (c .before .before .before .before .before) .fit .4)
 
-next-match-requires-2 : tie.Need-next-match-requires-2 Inv-loop μ-loop
-next-match-requires-2 c κs = omega arith
+add-drawn-4 : tie.Need-add-drawn-4 Inv-loop μ-loop
+add-drawn-4 c = omega (arith, round (c .before .before .before .before .before .before) .fit .4)
+
+add-walks : tie.Need-add-walks Inv-loop μ-loop
+add-walks c = omega (arith, round-few (round (c .before .before .before .before .before .before .before)))
+
+add-walks-2 : tie.Need-add-walks-2 Inv-loop μ-loop
+add-walks-2 c = omega (arith, round-few (round (c .before .before .before .before .before .before .before .before)))
+
+add-walks-3 : tie.Need-add-walks-3 Inv-loop μ-loop
+add-walks-3 c = omega (arith, round-few (round (c .before .before .before .before .before .before .before .before .before)))
+
+add-walks-4 : tie.Need-add-walks-4 Inv-loop μ-loop
+add-walks-4 c = omega (arith, round-few (round (c .before .before .before .before .before .before .before .before .before .before)))
 
 loop-less : tie.Need-loop-less Inv-loop μ-loop
-loop-less c = omega (arith, c .next-match2 .ensures .on)
+loop-less c = round-on (round (c .before .before .before .before .before .before .before .before .before .before))
 
 loop-again : tie.Need-loop-again Inv-loop μ-loop
 loop-again c =
-    let s = c .before .before .before .before .before .before .before .before in
-    let newest = s .before .before .before .before .before .before .before .read-newest .ensures in
-    let ahead = s .before .before .before .before .loop .inv in
-    gather-skip _ _ _ _ _ _ _ _ _
-    (gather-walked _ _ _ _ _ _ _ newest _ _ ahead (omega arith) _ (s .before .before .position-at .ensures) _ (s .span-of .ensures) _
-    (c .before .before .before .before .before .before .reach .given .1) _ (c .before .before .before .walk .ensures)
-    (not-false _ (c .before .if1 .left)))
-    (c .next-match2 .ensures)
+    round-walked (round (c .before .before .before .before .before .before .before .before .before .before)) _
+    (c .before .before .before .before .before .before .before .before .walk-four .ensures)
 
-returns-3 : tie.Need-returns-3 Inv-loop μ-loop
-returns-3 c = gather-end _ _ _ _ _ _ _ _ (c .before .loop .inv .gathering) (omega arith)
+mul-t33 : tie.Need-mul-t33 Inv-loop μ-loop
+mul-t33 c =
+    let newest = c .before .before .before .before .before .read-newest .ensures in
+    record { fits = walked-reads newest (c .before .before .loop .inv) (omega arith) }
+
+returns-2 : tie.Need-returns-2 Inv-loop μ-loop
+returns-2 c = gather-end _ _ _ _ _ _ _ _ (c .before .before .loop .inv .ahead .gathering) (omega arith)
 
 pub gather-spec : {M : Type 1} → statement M
 gather-spec =
@@ -99,16 +127,23 @@ gather-spec =
     read-newest-requires
     next-match-requires
     loop-holds
-    mul-position-at
-    position-at-requires
-    span-of-requires
-    enum-known-reach
-    enum-told
+    turn-of-requires
+    turn-of-requires-2
+    turn-of-requires-3
+    turn-of-requires-4
+    four-fit-requires
+    gather-each-requires
     returns
-    walk-requires
-    returns-2
-    add-next-match
-    next-match-requires-2
+    walk-four-requires
+    add-drawn
+    add-drawn-2
+    add-drawn-3
+    add-drawn-4
+    add-walks
+    add-walks-2
+    add-walks-3
+    add-walks-4
     loop-less
     loop-again
-    returns-3)
+    mul-t33
+    returns-2)
