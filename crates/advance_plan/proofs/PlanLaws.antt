@@ -241,11 +241,16 @@ module _ (P E : ℕ) (img m : List ℕ) (g : Given) (passed : ℕ) (z : ReadyAft
       tabled : Tabled v (seatCap v m) seats t
       unfolding ratioIn
       tabled = record {
-        first-self = λ s l. rw (← mt .cap s l) (summed .table .first-self s l);
-        first-other = λ s l. rw (← mt .cap s l) (summed .table .first-other s l);
-        later-self = λ s l. rw (← mt .cap s l) (summed .table .later-self s l);
-        later-other = λ s l. rw (← mt .cap s l) (summed .table .later-other s l);
-        fees = summed .table .fees;
+        first = record {
+          self = λ s l. rw (← mt .cap s l) (summed .table .first .self s l);
+          other = λ s l. rw (← mt .cap s l) (summed .table .first .other s l);
+          fee = summed .table .first .fee;
+        };
+        later = record {
+          self = λ s l. rw (← mt .cap s l) (summed .table .later .self s l);
+          other = λ s l. rw (← mt .cap s l) (summed .table .later .other s l);
+          fee = summed .table .later .fee;
+        };
       }
 
       module _ (n claimable : ℕ) (en : n ≡ v (head numEvents)) (ec : claimable ≡ v (head claimableRewards))
@@ -267,6 +272,7 @@ module _ (P E : ℕ) (img m : List ℕ) (g : Given) (passed : ℕ) (z : ReadyAft
                 seats-is = es;
                 rolls = summed .rolls;
                 table = tabled;
+                room = summed .room;
                 marks = λ j l. mt .mark j (omega arith);
                 unmarked = λ j l. mt .rest j (omega arith);
                 later = due-later P v m g passed (z .due);

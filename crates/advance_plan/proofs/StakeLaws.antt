@@ -2,10 +2,10 @@
 use mathlib.Core.Path.{_≡_, refl, sym, ap, subst, _∙_}
 use mathlib.Core.Bool.{Bool, true, false}
 use mathlib.Core.List.{List}
-use Prim.Native.Nat.{ℕ, _+_, _≤_, _<_}
+use Prim.Native.Nat.{ℕ, _+_, _*_, _≤_, _<_}
 use native.Mathlib.Decide.{ℕ-discrete}
 use native.Mathlib.Omega.{arith}
-use lib.ListN.{length, getD, set}
+use lib.ListN.{length, getD, set, length-set}
 use lib.Seq.{getD-set-same, getD-set-other}
 use Rattle.types.specs.Base.{if_then_else_, accepted}
 use Rattle.types.proofs.Below.{sum-none, sum-more, all-none, all-more}
@@ -23,7 +23,7 @@ use Rattle.advance_plan.specs.declared.stake.SeatEligible.{SeatEligible}
 use Rattle.advance_plan.specs.declared.stake.SeatEpochs.{SeatEpochs}
 use Rattle.advance_plan.specs.declared.stake.SeatEpochs.the-variants.{Fits, DoesNotFit}
 use Rattle.advance_plan.specs.Advance.{totalIn, seatRolls, eligibleAt, ratioAt, eligibleIn, ratioIn}
-use Rattle.advance_plan.specs.Stake.{seatEligible, seatIn, seatEpochs, Table, tableOf, Summed}
+use Rattle.advance_plan.specs.Stake.{seatEligible, seatIn, seatEpochs, Table, tableOf, withShares, Shared, Summed}
 
 -- a list filled up to n, one more
 pub list-more : (f : ℕ → ℕ) (l : List ℕ) (n v : ℕ) → ((i : ℕ) → i < n → getD l i 0 ≡ f i) → n < length l → v ≡ f n → (i : ℕ) → i < n + 1 → getD (set l n v) i 0 ≡ f i
@@ -122,18 +122,16 @@ module _ (w : Words) (cap s : ℕ) (r : SeatEpochs) (e : r ≡ seatEpochs w cap 
 
 -- ---- the loop over the seats
 
+shared-none : (w : Words) (cap : ℕ → ℕ) (k : ℕ) (l : List ℕ) → Shared w cap k 0 l
+shared-none w cap k l = record { self = λ s l. absurd (omega arith); other = λ s l. absurd (omega arith); fee = λ s l. absurd (omega arith) }
+
 pub summed-none : (w : Words) (cap : ℕ → ℕ) (t : Table) → Summed w cap 0 t 0 0
 summed-none w cap t = record {
   rolls = all-none _;
   first-sum = sum-none _;
   later-sum = sum-none _;
-  table = record {
-    first-self = λ s l. absurd (omega arith);
-    first-other = λ s l. absurd (omega arith);
-    later-self = λ s l. absurd (omega arith);
-    later-other = λ s l. absurd (omega arith);
-    fees = λ s l. absurd (omega arith);
-  };
+  table = record { first = shared-none w cap 0 (t .first); later = shared-none w cap 1 (t .later) };
+  room = record { first = omega arith; later = omega arith };
 }
 
 -- a seat's fields in the k-th passed epoch
@@ -146,28 +144,94 @@ seat-fields w cap k s x e = (
   ap (λ (v : SeatEligible). v .«other_reward_ratio» .0) e,
 )
 
+-- a list with the words of one more seat
+pub shares-set : (l : List ℕ) (s : ℕ) (x : SeatEligible) (fee : ℕ)
+    → set (set (set l (s * 3) (x .«self_reward_ratio» .0)) (s * 3 + 1) (x .«other_reward_ratio» .0)) (s * 3 + 2) fee ≡ withShares l s x fee
+unfolding withShares
+shares-set l s x fee = refl
+
+pub shares-length : (l : List ℕ) (s : ℕ) (x : SeatEligible) (fee : ℕ) (r : List ℕ) → r ≡ withShares l s x fee → length r ≡ length l
+unfolding withShares
+shares-length l s x fee r e = ap length e ∙ simp length-set
+
+module _ (l : List ℕ) (s : ℕ) (x : SeatEligible) (fee : ℕ) (room : s * 3 + 3 ≤ length l) where
+  abbrev anew : List ℕ
+  anew = withShares l s x fee
+
+  abbrev one : List ℕ
+  one = set l (s * 3) (x .«self_reward_ratio» .0)
+
+  abbrev two : List ℕ
+  two = set one (s * 3 + 1) (x .«other_reward_ratio» .0)
+
+  -- its words
+  here-self : getD anew (s * 3) 0 ≡ x .«self_reward_ratio» .0
+  unfolding withShares
+  here-self =
+      getD-set-other two (s * 3 + 2) (s * 3) fee 0 (λ e. omega arith)
+      ∙ getD-set-other one (s * 3 + 1) (s * 3) (x .«other_reward_ratio» .0) 0 (λ e. omega arith)
+      ∙ getD-set-same l (s * 3) (x .«self_reward_ratio» .0) 0 (omega arith)
+
+  here-other : getD anew (s * 3 + 1) 0 ≡ x .«other_reward_ratio» .0
+  unfolding withShares
+  here-other =
+      getD-set-other two (s * 3 + 2) (s * 3 + 1) fee 0 (λ e. omega arith)
+      ∙ getD-set-same one (s * 3 + 1) (x .«other_reward_ratio» .0) 0 (simp length-set (omega arith))
+
+  here-fee : getD anew (s * 3 + 2) 0 ≡ fee
+  unfolding withShares
+  here-fee = getD-set-same two (s * 3 + 2) fee 0 (simp length-set (omega arith))
+
+  -- those of the seats in front
+  front : (i : ℕ) → i < s * 3 → getD anew i 0 ≡ getD l i 0
+  unfolding withShares
+  front i h =
+      getD-set-other two (s * 3 + 2) i fee 0 (λ e. omega arith)
+      ∙ getD-set-other one (s * 3 + 1) i (x .«other_reward_ratio» .0) 0 (λ e. omega arith)
+      ∙ getD-set-other l (s * 3) i (x .«self_reward_ratio» .0) 0 (λ e. omega arith)
+
+  pub shared-more : (w : Words) (cap : ℕ → ℕ) (k : ℕ) → Shared w cap k s l → x .«self_reward_ratio» .0 ≡ ratioIn w cap k s self
+      → x .«other_reward_ratio» .0 ≡ ratioIn w cap k s other → fee ≡ w (seat s delegationFees) → Shared w cap k (s + 1) anew
+  shared-more w cap k h ea eb ef = record {
+    self = λ q lq. own q lq (ℕ-discrete q s);
+    other = λ q lq. others q lq (ℕ-discrete q s);
+    fee = λ q lq. fees q lq (ℕ-discrete q s);
+  }
+    where
+      own : (q : ℕ) → q < s + 1 → Dec (q ≡ s) → getD anew (q * 3) 0 ≡ ratioIn w cap k q self
+      own q lq (yes e) = rw e (here-self ∙ ea)
+      own q lq (no ne) = front (q * 3) (omega arith) ∙ h .self q (omega arith)
+
+      others : (q : ℕ) → q < s + 1 → Dec (q ≡ s) → getD anew (q * 3 + 1) 0 ≡ ratioIn w cap k q other
+      others q lq (yes e) = rw e (here-other ∙ eb)
+      others q lq (no ne) = front (q * 3 + 1) (omega arith) ∙ h .other q (omega arith)
+
+      fees : (q : ℕ) → q < s + 1 → Dec (q ≡ s) → getD anew (q * 3 + 2) 0 ≡ w (seat q delegationFees)
+      fees q lq (yes e) = rw e (here-fee ∙ ef)
+      fees q lq (no ne) = front (q * 3 + 2) (omega arith) ∙ h .fee q (omega arith)
+
 pub summed-more : (w : Words) (cap : ℕ → ℕ) (s : ℕ) (t : Table) (x y : ℕ) → Summed w cap s t x y → (r : SeatEpochs) → r ≡ seatEpochs w (cap s) s
     → (first later : SeatEligible) → r ≡ Fits first later
     → (x′ y′ v : ℕ) → x′ ≡ x + first .«total_eligible_delegation» .0 → y′ ≡ y + later .«total_eligible_delegation» .0 → v ≡ w (seat s delegationFees)
-    → s < length (t .first-self) → s < length (t .first-other) → s < length (t .later-self) → s < length (t .later-other) → s < length (t .fees)
-    → Summed w cap (s + 1) (tableOf (set (t .first-self) s (first .«self_reward_ratio» .0)) (set (t .first-other) s (first .«other_reward_ratio» .0))
-    (set (t .later-self) s (later .«self_reward_ratio» .0)) (set (t .later-other) s (later .«other_reward_ratio» .0)) (set (t .fees) s v)) x′ y′
-summed-more w cap s t x y h r e first later q x′ y′ v ex ey ev l0 l1 l2 l3 l4 =
+    → s * 3 + 3 ≤ length (t .first) → s * 3 + 3 ≤ length (t .later) → (a b : List ℕ) → a ≡ withShares (t .first) s first v → b ≡ withShares (t .later) s later v
+    → Summed w cap (s + 1) (tableOf a b) x′ y′
+summed-more w cap s t x y h r e first later q x′ y′ v ex ey ev la lb a b qa qb =
     let says = seat-says w (cap s) s r e first later q in
     let f = seat-fields w cap 0 s first (says .1) in
     let g = seat-fields w cap 1 s later (says .2) in
-    record {
+    rw (qa, qb) (record {
       rolls = all-more _ s (h .rolls) (says .0);
       first-sum = omega (arith, h .first-sum, f .0, sum-more (eligibleIn w cap 0) s);
       later-sum = omega (arith, h .later-sum, g .0, sum-more (eligibleIn w cap 1) s);
       table = record {
-        first-self = list-more (λ q. ratioIn w cap 0 q self) (t .first-self) s _ (h .table .first-self) l0 (f .1);
-        first-other = list-more (λ q. ratioIn w cap 0 q other) (t .first-other) s _ (h .table .first-other) l1 (f .2);
-        later-self = list-more (λ q. ratioIn w cap 1 q self) (t .later-self) s _ (h .table .later-self) l2 (g .1);
-        later-other = list-more (λ q. ratioIn w cap 1 q other) (t .later-other) s _ (h .table .later-other) l3 (g .2);
-        fees = list-more (λ q. w (seat q delegationFees)) (t .fees) s v (h .table .fees) l4 ev;
+        first = shared-more (t .first) s first v la w cap 0 (h .table .first) (f .1) (f .2) ev;
+        later = shared-more (t .later) s later v lb w cap 1 (h .table .later) (g .1) (g .2) ev;
       };
-    }
+      room = record {
+        first = omega (arith, shares-length (t .first) s first v _ refl);
+        later = omega (arith, shares-length (t .later) s later v _ refl);
+      };
+    })
 
 pub summed-all : (w : Words) (cap : ℕ → ℕ) (s seats : ℕ) (t : Table) (x y : ℕ) → s ≡ seats → Summed w cap s t x y → Summed w cap seats t x y
 summed-all w cap s seats t x y e h = subst (λ (n : ℕ). Summed w cap n t x y) e h

@@ -23,7 +23,7 @@ use Rattle.advance_plan.specs.declared.plan.Planned.{Planned}
 use Rattle.advance_plan.specs.declared.plan.Planned.the-variants as planned
 use Rattle.advance_plan.specs.declared.plan.AdvancePlan.{AdvancePlan}
 use Rattle.advance_plan.specs.Advance.{seatCap, seatRolls, eligibleSum, forecastSum, matchedRow, passedOf, adjustmentOf}
-use Rattle.advance_plan.specs.Stake.{Table, Tabled}
+use Rattle.advance_plan.specs.Stake.{Table, Roomy, Tabled}
 
 -- the image has been checked, the message too, and an epoch has a length
 pub record Ready (P E : ℕ) (img m : List ℕ) (seconds : ℕ) : Type 0 where
@@ -80,6 +80,7 @@ pub record Worked (P E : ℕ) (img m : List ℕ) (seats rows : ℕ) (words : Lis
   pub seats-is : seats ≡ seatsOf P (read P E img)
   pub rolls : allBelow seats (seatRolls (read P E img)) ≡ true
   pub table : Tabled (read P E img) (seatCap (read P E img) m) seats t
+  pub room : Roomy seats t
   pub marks : (j : ℕ) → j < rows → marked words j ≡ matchedRow (read P E img) m seats j
   pub unmarked : (j : ℕ) → rows ≤ j → marked words j ≡ false
   pub later : read P E img (head lastUpdatedEpoch) < epoch

@@ -2,8 +2,8 @@
 use mathlib.Core.Path.{_≡_}
 use mathlib.Core.Bool.{true, false}
 use mathlib.Core.List.{List}
-use Prim.Native.Nat.{ℕ, _<_}
-use lib.ListN.{length, getD}
+use Prim.Native.Nat.{ℕ, _+_, _*_, _≤_, _<_}
+use lib.ListN.{length, getD, set}
 use Rattle.types.specs.Base.{if_then_else_, sumBelow, allBelow}
 use Rattle.types.specs.Wide.{wideOf}
 use Rattle.image.specs.Layout.{self, other, delegationFees, seat, Words}
@@ -33,32 +33,33 @@ seatEpochs w cap s = if seatRolls w s then seat-epochs.Fits (seatIn w cap 0 s) (
 
 -- ---- all seats
 
--- the lists of ratios and fees that events are written from: the first passed epoch's, and those of every later one
+-- the words of the seats in an event, three for each: self ratio, other ratio, fee. One list for the first passed epoch, one for every later one
 pub record Table : Type 0 where
-  pub first-self : List ℕ
-  pub first-other : List ℕ
-  pub later-self : List ℕ
-  pub later-other : List ℕ
-  pub fees : List ℕ
+  pub first : List ℕ
+  pub later : List ℕ
 
-abbrev pub tableOf : List ℕ → List ℕ → List ℕ → List ℕ → List ℕ → Table
-tableOf a b c d f = record { first-self = a; first-other = b; later-self = c; later-other = d; fees = f }
+abbrev pub tableOf : (first later : List ℕ) → Table
+tableOf first later = record { first = first; later = later }
 
--- each has 1,024 words
-pub record Roomy (t : Table) : Type 0 where
-  pub first-self : length (t .first-self) ≡ 1_024
-  pub first-other : length (t .first-other) ≡ 1_024
-  pub later-self : length (t .later-self) ≡ 1_024
-  pub later-other : length (t .later-other) ≡ 1_024
-  pub fees : length (t .fees) ≡ 1_024
+-- each has words for n seats
+pub record Roomy (n : ℕ) (t : Table) : Type 0 where
+  pub first : n * 3 ≤ length (t .first)
+  pub later : n * 3 ≤ length (t .later)
 
--- they are right for the first n seats
+-- a list with seat s's words
+unfoldable pub withShares : List ℕ → (s : ℕ) → SeatEligible → (fee : ℕ) → List ℕ
+withShares l s x fee = set (set (set l (s * 3) (x .«self_reward_ratio» .0)) (s * 3 + 1) (x .«other_reward_ratio» .0)) (s * 3 + 2) fee
+
+-- a list is right for the first n seats in the k-th passed epoch
+pub record Shared (w : Words) (cap : ℕ → ℕ) (k n : ℕ) (l : List ℕ) : Type 0 where
+  pub self : (s : ℕ) → s < n → getD l (s * 3) 0 ≡ ratioIn w cap k s self
+  pub other : (s : ℕ) → s < n → getD l (s * 3 + 1) 0 ≡ ratioIn w cap k s other
+  pub fee : (s : ℕ) → s < n → getD l (s * 3 + 2) 0 ≡ w (seat s delegationFees)
+
+-- both are
 pub record Tabled (w : Words) (cap : ℕ → ℕ) (n : ℕ) (t : Table) : Type 0 where
-  pub first-self : (s : ℕ) → s < n → getD (t .first-self) s 0 ≡ ratioIn w cap 0 s self
-  pub first-other : (s : ℕ) → s < n → getD (t .first-other) s 0 ≡ ratioIn w cap 0 s other
-  pub later-self : (s : ℕ) → s < n → getD (t .later-self) s 0 ≡ ratioIn w cap 1 s self
-  pub later-other : (s : ℕ) → s < n → getD (t .later-other) s 0 ≡ ratioIn w cap 1 s other
-  pub fees : (s : ℕ) → s < n → getD (t .fees) s 0 ≡ w (seat s delegationFees)
+  pub first : Shared w cap 0 n (t .first)
+  pub later : Shared w cap 1 n (t .later)
 
 -- all of them roll; the sums over them and the lists
 pub record Summed (w : Words) (cap : ℕ → ℕ) (seats : ℕ) (t : Table) (first later : ℕ) : Type 0 where
@@ -66,6 +67,7 @@ pub record Summed (w : Words) (cap : ℕ → ℕ) (seats : ℕ) (t : Table) (fir
   pub first-sum : first ≡ sumBelow seats (eligibleIn w cap 0)
   pub later-sum : later ≡ sumBelow seats (eligibleIn w cap 1)
   pub table : Tabled w cap seats t
+  pub room : Roomy seats t
 
 -- the sums, or that a seat does not roll
 unfoldable pub SumsEligible : Words → (cap : ℕ → ℕ) → (seats : ℕ) → Table → EligibleSums → Type 0

@@ -1,6 +1,7 @@
 // All that is worked out before the first write.
 ghost use mathlib.Core.Path.{_≡_};
 ghost use Prim.Native.Nat.{_+_, _-_, _*_, _^_, _≤_, _<_};
+ghost use lib.ListN.{length};
 ghost use Rattle.types.specs.Base.{if_then_else_};
 ghost use Rattle.types.specs.Wide.{wideOf, fitOf};
 ghost use Rattle.event.specs.Adjust.{adjustedIs};
@@ -125,36 +126,23 @@ fn plan_due(
     given: Given,
     every_rolled: bool,
     passed: u64,
-    first_self: &mut [u64; 1024],
-    first_other: &mut [u64; 1024],
-    later_self: &mut [u64; 1024],
-    later_other: &mut [u64; 1024],
-    fees: &mut [u64; 1024],
+    caps: &mut [u64],
+    first_shares: &mut [u64],
+    later_shares: &mut [u64],
 ) -> AdvancePlan
-    requires { ⌜ ReadyAfter p e (now pool) (now m) given passed × Roomy (tableOf (now «first_self») (now «first_other») (now «later_self») (now «later_other») (now fees)) ⌝ }
-    ensures { λ r. ⌜ PlannedAs p e (now (pool .entry)) (now (m .entry)) given «every_rolled» (tableOf (now («first_self» .exit)) (now («first_other» .exit)) (now («later_self» .exit)) (now («later_other» .exit)) (now (fees .exit))) r ⌝ }
+    requires { ⌜ ReadyAfter p e (now pool) (now m) given passed × (p ≤ length (now caps)) × Roomy p (tableOf (now «first_shares») (now «later_shares»)) ⌝ }
+    ensures { λ r. ⌜ PlannedAs p e (now (pool .entry)) (now (m .entry)) given «every_rolled» (tableOf (now («first_shares» .exit)) (now («later_shares» .exit))) r ⌝ }
 {
     let rows = publisher_caps::num_publishers(m);
     let seats = image::seats::seats(pool, p, e);
-    let mut caps = [0u64; 1024];
-    let marks = rows::match_rows(pool, p, e, seats, m, rows, &mut caps);
-    let sums = stake::sum_eligible(
-        pool,
-        p,
-        e,
-        seats,
-        &caps,
-        first_self,
-        first_other,
-        later_self,
-        later_other,
-        fees,
-    );
+    let marks = rows::match_rows(pool, p, e, seats, m, rows, caps);
+    let sums = stake::sum_eligible(pool, p, e, seats, &caps[..], first_shares, later_shares);
     let planned = plan_sums(pool, p, e, given, every_rolled, passed, sums);
     with_rows(planned, seats, rows, marks)
 }
 
-// y' and the amount set aside, or refusals 7, 8, 13 for a negative time, 9, other 13, 14; each seat's ratios and fee go to the five lists.
+// y' and the amount set aside, or refusals 7, 8, 13 for a negative time, 9, other 13, 14; each seat's ratios and fee go to the two lists, its cap
+// to `caps`.
 // `every_rolled` is the forecast's reading: every passed epoch at the rolled totals.
 pub fn plan(
     pool: &[u64],
@@ -163,14 +151,12 @@ pub fn plan(
     m: &[u8],
     given: Given,
     every_rolled: bool,
-    first_self: &mut [u64; 1024],
-    first_other: &mut [u64; 1024],
-    later_self: &mut [u64; 1024],
-    later_other: &mut [u64; 1024],
-    fees: &mut [u64; 1024],
+    caps: &mut [u64],
+    first_shares: &mut [u64],
+    later_shares: &mut [u64],
 ) -> AdvancePlan
-    requires { ⌜ Ready p e (now pool) (now m) (given .«epoch_duration») × Roomy (tableOf (now «first_self») (now «first_other») (now «later_self») (now «later_other») (now fees)) ⌝ }
-    ensures { λ r. ⌜ PlannedAs p e (now (pool .entry)) (now (m .entry)) given «every_rolled» (tableOf (now («first_self» .exit)) (now («first_other» .exit)) (now («later_self» .exit)) (now («later_other» .exit)) (now (fees .exit))) r ⌝ }
+    requires { ⌜ Ready p e (now pool) (now m) (given .«epoch_duration») × (p ≤ length (now caps)) × Roomy p (tableOf (now «first_shares») (now «later_shares»)) ⌝ }
+    ensures { λ r. ⌜ PlannedAs p e (now (pool .entry)) (now (m .entry)) given «every_rolled» (tableOf (now («first_shares» .exit)) (now («later_shares» .exit))) r ⌝ }
 {
     let time = publisher_caps::publish_time(m);
     let epochs = due::epochs_due(pool[0], time, given);
@@ -187,11 +173,9 @@ pub fn plan(
             given,
             every_rolled,
             passed,
-            first_self,
-            first_other,
-            later_self,
-            later_other,
-            fees,
+            caps,
+            first_shares,
+            later_shares,
         ),
     }
 }

@@ -101,9 +101,9 @@ pub fn match_rows(
     seats: usize,
     m: &[u8],
     rows: usize,
-    caps: &mut [u64; 1024],
+    caps: &mut [u64],
 ) -> BoolArray
-    requires { ⌜ Sized (now pool) p e × (seats ≤ p) × Whole (now m) × (rows ≡ rowsOf (now m)) × (length (now caps) ≡ 1024) ⌝ }
+    requires { ⌜ Sized (now pool) p e × (seats ≤ p) × Whole (now m) × (rows ≡ rowsOf (now m)) × (p ≤ length (now caps)) ⌝ }
     ensures { λ r. ⌜ Matched (read p e (now (pool .entry))) (now (m .entry)) seats (now (caps .exit)) (r .words) ⌝ }
 {
     let mut index = [0u16; 4096];

@@ -1,10 +1,10 @@
 // What the caps cover of the stake: sums over the seats, and each seat's ratios, before and after the roll.
 ghost use mathlib.Core.Path.{_≡_};
-ghost use Prim.Native.Nat.{_≤_, _<_};
-ghost use lib.ListN.{getD};
+ghost use Prim.Native.Nat.{_+_, _*_, _≤_, _<_};
+ghost use lib.ListN.{length, getD};
 ghost use Rattle.image.specs.Layout.{read};
 ghost use Rattle.image.specs.Seats.{Sized};
-ghost use Rattle.advance_plan.specs.Stake.{seatEligible, seatEpochs, tableOf, Roomy, SumsEligible};
+ghost use Rattle.advance_plan.specs.Stake.{seatEligible, seatEpochs, tableOf, Roomy, withShares, SumsEligible};
 use delegation::Changed;
 use event::eligible::EligibleDelegationData;
 use types::Amount;
@@ -78,21 +78,29 @@ fn eligible_at_seat(pool: &[u64], p: usize, e: usize, s: usize, cap: u64) -> Sea
     SeatEpochs::Fits { first, later }
 }
 
-// The first seats' ratios and fees go to the five lists.
+// The words of seat s in an event: its self ratio, other ratio and fee.
+fn set_shares(shares: &mut [u64], s: usize, seat: SeatEligible, fee: u64)
+    requires { ⌜ (s < 1024) × (s * 3 + 3 ≤ length (now shares)) ⌝ }
+    ensures { λ _. ⌜ now (shares .exit) ≡ withShares (now (shares .entry)) s seat fee ⌝ }
+{
+    let at = s * 3;
+    shares[at] = seat.self_reward_ratio.0;
+    shares[at + 1] = seat.other_reward_ratio.0;
+    shares[at + 2] = fee;
+}
+
+// The first seats' ratios and fees go to the two lists, as they stand in an event.
 pub fn sum_eligible(
     pool: &[u64],
     p: usize,
     e: usize,
     seats: usize,
-    caps: &[u64; 1024],
-    first_self: &mut [u64; 1024],
-    first_other: &mut [u64; 1024],
-    later_self: &mut [u64; 1024],
-    later_other: &mut [u64; 1024],
-    fees: &mut [u64; 1024],
+    caps: &[u64],
+    first_shares: &mut [u64],
+    later_shares: &mut [u64],
 ) -> EligibleSums
-    requires { ⌜ Sized (now pool) p e × (seats ≤ p) × Roomy (tableOf (now «first_self») (now «first_other») (now «later_self») (now «later_other») (now fees)) ⌝ }
-    ensures { λ r. ⌜ SumsEligible (read p e (now (pool .entry))) (λ s. getD (now (caps .entry)) s 0) seats (tableOf (now («first_self» .exit)) (now («first_other» .exit)) (now («later_self» .exit)) (now («later_other» .exit)) (now (fees .exit))) r ⌝ }
+    requires { ⌜ Sized (now pool) p e × (seats ≤ p) × (p ≤ length (now caps)) × Roomy p (tableOf (now «first_shares») (now «later_shares»)) ⌝ }
+    ensures { λ r. ⌜ SumsEligible (read p e (now (pool .entry))) (λ s. getD (now (caps .entry)) s 0) seats (tableOf (now («first_shares» .exit)) (now («later_shares» .exit))) r ⌝ }
 {
     let mut first_sum = Wide { hi: 0, lo: 0 };
     let mut later_sum = Wide { hi: 0, lo: 0 };
@@ -104,11 +112,9 @@ pub fn sum_eligible(
         };
         first_sum = types::wide::plus(first_sum, first.total_eligible_delegation.0);
         later_sum = types::wide::plus(later_sum, later.total_eligible_delegation.0);
-        first_self[s] = first.self_reward_ratio.0;
-        first_other[s] = first.other_reward_ratio.0;
-        later_self[s] = later.self_reward_ratio.0;
-        later_other[s] = later.other_reward_ratio.0;
-        fees[s] = image::seats::delegation_fee(pool, p, e, s);
+        let fee = image::seats::delegation_fee(pool, p, e, s);
+        set_shares(first_shares, s, first, fee);
+        set_shares(later_shares, s, later, fee);
         s += 1;
     }
     EligibleSums::Sums {

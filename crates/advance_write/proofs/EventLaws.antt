@@ -10,12 +10,12 @@ use Rattle.image.specs.Lists.{imap}
 use Rattle.image.proofs.ListLaws.{if-lt, if-le, lt-or-le, Anew, anew-is}
 use Rattle.image.proofs.StrideLaws.{strided-before, strided-behind, strided-at, strided-turn, in-run}
 use Rattle.advance_write.specs.declared.events.EventHead.{EventHead}
-use Rattle.advance_write.specs.Events.{Shares, shareAt, shareAnew, sharesWord, eventWord}
+use Rattle.advance_write.specs.Events.{shareAt, shareAnew, sharesWord, eventWord}
 
 -- a turn of the loop: one more seat
-module _ (r : Shares) (i : ℕ) (old l : List ℕ) (b : 9 + i * 3 + 2 < length l) (h : Anew (sharesWord r i) old l) where
+module _ (r : List ℕ) (i : ℕ) (old l : List ℕ) (b : 9 + i * 3 + 2 < length l) (h : Anew (sharesWord r i) old l) where
   abbrev turned : List ℕ
-  turned = set (set (set l (9 + i * 3) (getD (r .self) i 0)) (9 + i * 3 + 1) (getD (r .other) i 0)) (9 + i * 3 + 2) (getD (r .fees) i 0)
+  turned = set (set (set l (9 + i * 3) (getD r (i * 3) 0)) (9 + i * 3 + 1) (getD r (i * 3 + 1) 0)) (9 + i * 3 + 2) (getD r (i * 3 + 2) 0)
 
   kept : (j : ℕ) → (j < 9 + i * 3) ⊎ (9 + i * 3 + 3 ≤ j) → getD turned j 0 ≡ getD l j 0
   kept j s =
@@ -33,10 +33,10 @@ module _ (r : Shares) (i : ℕ) (old l : List ℕ) (b : 9 + i * 3 + 2 < length l
       rw e (simp (getD-set-other, getD-set-same))
   new (suc zero) c =
       let n2 : 9 + i * 3 + 1 ≢ 9 + i * 3 + 2 = omega arith in
-      let b1 : 9 + i * 3 + 1 < length (set l (9 + i * 3) (getD (r .self) i 0)) = simp length-set (omega arith) in
+      let b1 : 9 + i * 3 + 1 < length (set l (9 + i * 3) (getD r (i * 3) 0)) = simp length-set (omega arith) in
       simp (getD-set-other, getD-set-same)
   new (suc (suc zero)) c =
-      let b2 : 9 + i * 3 + 2 < length (set (set l (9 + i * 3) (getD (r .self) i 0)) (9 + i * 3 + 1) (getD (r .other) i 0)) = simp length-set (omega arith) in
+      let b2 : 9 + i * 3 + 2 < length (set (set l (9 + i * 3) (getD r (i * 3) 0)) (9 + i * 3 + 1) (getD r (i * 3 + 1) 0)) = simp length-set (omega arith) in
       simp getD-set-same
   new (suc (suc (suc m))) c = absurd (omega arith)
 
@@ -44,7 +44,7 @@ module _ (r : Shares) (i : ℕ) (old l : List ℕ) (b : 9 + i * 3 + 2 < length l
   seats-turn = strided-turn 9 3 (shareAnew r) i old l turned (omega arith) h (simp length-set) kept new
 
 -- an event's words: epoch, y, and from word 2 on as the seats are written
-module _ (h : EventHead) (r : Shares) (seats o : ℕ) where
+module _ (h : EventHead) (r : List ℕ) (seats o : ℕ) where
   pub event-epoch : (j : ℕ) → j ≡ 0 → eventWord h r seats o j ≡ h .epoch .0
   unfolding eventWord
   event-epoch j e = if-lt j 1 _ _ (omega arith)
@@ -58,7 +58,7 @@ module _ (h : EventHead) (r : Shares) (seats o : ℕ) where
   event-more j l = if-le j 1 _ _ (omega arith) ∙ if-le j 2 _ _ l
 
 -- what the loop leaves is the event
-module _ (h : EventHead) (r : Shares) (seats : ℕ) (old : List ℕ) (b : 1 < length old) where
+module _ (h : EventHead) (r : List ℕ) (seats : ℕ) (old : List ℕ) (b : 1 < length old) where
   done-epoch : (j : ℕ) → j ≡ 0 → getD (set (set old 0 (h .epoch .0)) 1 (h .y .0)) j 0 ≡ h .epoch .0
   done-epoch j e =
       let n : j ≢ 1 = omega arith in
@@ -91,7 +91,7 @@ module _ (h : EventHead) (r : Shares) (seats : ℕ) (old : List ℕ) (b : 1 < le
       anew-is (record { same = a .same ∙ simp length-set; word = λ j c. a .word j (simp length-set c) ∙ done-at j })
 
 -- an event written over another leaves nothing of it
-pub event-over : (h h′ : EventHead) (r r′ : Shares) (seats o j : ℕ) → eventWord h r seats (eventWord h′ r′ seats o j) j ≡ eventWord h r seats o j
+pub event-over : (h h′ : EventHead) (r r′ : List ℕ) (seats o j : ℕ) → eventWord h r seats (eventWord h′ r′ seats o j) j ≡ eventWord h r seats o j
 event-over h h′ r r′ seats o j =
     ⊎-elim
     (λ x. let e : j ≡ 0 = omega arith in event-epoch h r seats _ j e ∙ sym (event-epoch h r seats o j e))

@@ -71,17 +71,17 @@ module _ (P E : ℕ) (w : Words) (cap : ℕ → ℕ) (seats : ℕ) (x : PassedEp
   -- the table's words are the ratios of the k-th passed epoch
   self-ratio : (k s : ℕ) → s < seats → shareAt (sharesIn t k) s 0 ≡ ratioIn w cap k s self
   unfolding ratioIn
-  self-ratio zero s l = tb .first-self s l
-  self-ratio (suc k) s l = tb .later-self s l
+  self-ratio zero s l = tb .first .self s l
+  self-ratio (suc k) s l = tb .later .self s l
 
   other-ratio : (k s : ℕ) → s < seats → shareAt (sharesIn t k) s 1 ≡ ratioIn w cap k s other
   unfolding ratioIn
-  other-ratio zero s l = tb .first-other s l
-  other-ratio (suc k) s l = tb .later-other s l
+  other-ratio zero s l = tb .first .other s l
+  other-ratio (suc k) s l = tb .later .other s l
 
   the-fee : (k s : ℕ) → s < seats → shareAt (sharesIn t k) s 2 ≡ w (seat s delegationFees)
-  the-fee zero s l = tb .fees s l
-  the-fee (suc k) s l = tb .fees s l
+  the-fee zero s l = tb .first .fee s l
+  the-fee (suc k) s l = tb .later .fee s l
 
   at-share : (k o s m : ℕ) → m < 3 → s < seats → epochEvent pass k o (9 + s * 3 + m) ≡ shareAt (sharesIn t k) s m
   at-share k o s m lm ls = epoch-share pass k o s m ls lm

@@ -17,7 +17,7 @@ use Rattle.image.proofs.AgeLaws.{age, age-lt, age-zero, age-suc}
 use Rattle.image.proofs.PlaceLaws.{slot-fits, slot-of}
 use Rattle.image.proofs.SeatLaws.{read-at}
 use Rattle.advance_write.specs.declared.events.PassedEpochs.{PassedEpochs}
-use Rattle.advance_write.specs.Events.{Shares, shareAt, eventWord, passedEpochs, Pass, headIn, sharesIn, epochWord, eventsWord}
+use Rattle.advance_write.specs.Events.{shareAt, eventWord, passedEpochs, Pass, headIn, sharesIn, epochWord, eventsWord}
 use Rattle.advance_write.proofs.EventLaws.{event-epoch, event-y, event-more, event-over}
 
 -- the number of the first event that is written
@@ -154,7 +154,7 @@ module _ (P E : ℕ) (img : List ℕ) (at : ℕ) (ea : at ≡ numEventsAt P E) w
 
 -- the event's words back in the image, which began with those of its slot
 module _ (w : Pass) (k : ℕ) (pool ys : List ℕ) (a : ℕ) (z : Sized pool (w .p) (w .e)) (at : a ≡ eventAt (w .p) ((num w + k) % w .e)) where
-  slot-back : (r : Shares) → r ≡ sharesIn (w .table) k → ys ≡ imap (eventWord (headIn (w .epochs) k) r (w .seats)) (take (a + (9 + 3 * w .p) - a) (drop a pool))
+  slot-back : (r : List ℕ) → r ≡ sharesIn (w .table) k → ys ≡ imap (eventWord (headIn (w .epochs) k) r (w .seats)) (take (a + (9 + 3 * w .p) - a) (drop a pool))
       → take a pool ++ (ys ++ drop (a + (9 + 3 * w .p) - a) (drop a pool)) ≡ imap (epochWord w k) pool
   unfolding epochWord
   slot-back r e q =

@@ -1,7 +1,7 @@
 -- The words of the events that an advance writes, by place: what the event writers leave. Advance.antt's `eventsAfter` says the same by name.
 -- Assumes nothing.
 use mathlib.Core.List.{List}
-use Prim.Native.Nat.{ℕ, zero, suc, _+_, _-_, _%_, _≤_, _<_}
+use Prim.Native.Nat.{ℕ, zero, suc, _+_, _-_, _*_, _%_, _≤_, _<_}
 use lib.ListN.{getD}
 use Rattle.types.specs.declared.Ratio.{Ratio}
 use Rattle.types.specs.Base.{word, half}
@@ -14,28 +14,22 @@ use Rattle.advance_write.specs.declared.events.PassedEpochs.{PassedEpoch
 
 -- ---- an event
 
--- the seats' ratios and fees in an event
-pub record Shares : Type 0 where
-  pub self : List ℕ
-  pub other : List ℕ
-  pub fees : List ℕ
-
 -- seat q's word i: self ratio, other ratio, fee
-abbrev pub shareAt : Shares → (q i : ℕ) → ℕ
-shareAt r q zero = getD (r .self) q 0
-shareAt r q (suc zero) = getD (r .other) q 0
-shareAt r q (suc (suc i)) = getD (r .fees) q 0
+abbrev pub shareAt : (shares : List ℕ) → (q i : ℕ) → ℕ
+shareAt shares q zero = getD shares (q * 3) 0
+shareAt shares q (suc zero) = getD shares (q * 3 + 1) 0
+shareAt shares q (suc (suc i)) = getD shares (q * 3 + 2) 0
 
 -- the same, whatever it was
-abbrev pub shareAnew : Shares → (o q i : ℕ) → ℕ
+abbrev pub shareAnew : List ℕ → (o q i : ℕ) → ℕ
 shareAnew r o q i = shareAt r q i
 
 -- word j of an event, where it was o, with the words of the first k seats written
-abbrev pub sharesWord : Shares → (k o j : ℕ) → ℕ
+abbrev pub sharesWord : List ℕ → (k o j : ℕ) → ℕ
 sharesWord r k = strided 9 3 (shareAnew r) k
 
 -- word j of an event, where it was o, once it is written: spare words and other seats stay
-unfoldable pub eventWord : EventHead → Shares → (seats o j : ℕ) → ℕ
+unfoldable pub eventWord : EventHead → List ℕ → (seats o j : ℕ) → ℕ
 eventWord h r seats o j = ifLt j 1 (h .epoch .0) (ifLt j 2 (h .y .0) (sharesWord r seats o j))
 
 -- ---- the ring of events
@@ -57,16 +51,16 @@ pub record Pass : Type 0 where
   pub epochs : PassedEpochs
   pub table : Table
 
-abbrev pub passOf : (p e seats : ℕ) → PassedEpochs → List ℕ → List ℕ → List ℕ → List ℕ → List ℕ → Pass
-passOf p e seats x fs fo ls lo fees = record { p = p; e = e; seats = seats; epochs = x; table = tableOf fs fo ls lo fees }
+abbrev pub passOf : (p e seats : ℕ) → PassedEpochs → (first later : List ℕ) → Pass
+passOf p e seats x first later = record { p = p; e = e; seats = seats; epochs = x; table = tableOf first later }
 
 -- the head of the k-th passed epoch's event, and its ratios: the first has its own
 abbrev pub headIn : PassedEpochs → (k : ℕ) → EventHead
 headIn x k = record { epoch = record { 0 = x .«last_updated_epoch» .0 + k }; y = x .y }
 
-abbrev pub sharesIn : Table → (k : ℕ) → Shares
-sharesIn t zero = record { self = t .first-self; other = t .first-other; fees = t .fees }
-sharesIn t (suc k) = record { self = t .later-self; other = t .later-other; fees = t .fees }
+abbrev pub sharesIn : Table → (k : ℕ) → List ℕ
+sharesIn t zero = t .first
+sharesIn t (suc k) = t .later
 
 -- word i of an image, where it was o, with the event of the k-th passed epoch written into its slot
 unfoldable pub epochWord : Pass → (k o i : ℕ) → ℕ

@@ -5,6 +5,7 @@ ghost use lib.ListN.{length};
 ghost use Rattle.image.specs.Layout.{lastUpdatedEpoch, head, read};
 ghost use Rattle.image.specs.Seats.{Sized};
 ghost use Rattle.image.specs.Lists.{imap};
+ghost use Rattle.advance_plan.specs.Stake.{tableOf, Roomy};
 ghost use Rattle.advance_write.specs.Events.{eventWord, passedEpochs, passOf, epochWord, eventsWord, Passing};
 use types::Epoch;
 use types::Ratio;
@@ -39,25 +40,19 @@ pub fn passed_epochs(pool: &[u64], p: usize, e: usize, epoch: Epoch, y: Ratio) -
 }
 
 // Writes the event's head, and self ratio, other ratio and fee for each of the first seats.
-fn write_event(
-    event: &mut [u64],
-    seats: usize,
-    head: EventHead,
-    self_ratios: &[u64; 1024],
-    other_ratios: &[u64; 1024],
-    fees: &[u64; 1024],
-)
-    requires { ⌜ (seats ≤ 1024) × (9 + 3 * seats ≤ length (now event)) ⌝ }
-    ensures { λ _. ⌜ now (event .exit) ≡ imap (eventWord head (record { self = now («self_ratios» .entry); other = now («other_ratios» .entry); fees = now (fees .entry) }) seats) (now (event .entry)) ⌝ }
+fn write_event(event: &mut [u64], seats: usize, head: EventHead, shares: &[u64])
+    requires { ⌜ (seats ≤ 1024) × (9 + 3 * seats ≤ length (now event)) × (seats * 3 ≤ length (now shares)) ⌝ }
+    ensures { λ _. ⌜ now (event .exit) ≡ imap (eventWord head (now (shares .entry)) seats) (now (event .entry)) ⌝ }
 {
     event[0] = head.epoch.0;
     event[1] = head.y.0;
     let mut s: usize = 0;
     while s < seats {
         let at = 9 + s * 3;
-        event[at] = self_ratios[s];
-        event[at + 1] = other_ratios[s];
-        event[at + 2] = fees[s];
+        let from = s * 3;
+        event[at] = shares[from];
+        event[at + 1] = shares[from + 1];
+        event[at + 2] = shares[from + 2];
         s += 1;
     }
 }
@@ -70,14 +65,11 @@ fn write_epoch(
     seats: usize,
     epochs: PassedEpochs,
     k: u64,
-    first_self: &[u64; 1024],
-    first_other: &[u64; 1024],
-    later_self: &[u64; 1024],
-    later_other: &[u64; 1024],
-    fees: &[u64; 1024],
+    first_shares: &[u64],
+    later_shares: &[u64],
 )
-    requires { ⌜ Passing (now pool) p e seats epochs × (k < epochs .passed) ⌝ }
-    ensures { λ _. ⌜ now (pool .exit) ≡ imap (epochWord (passOf p e seats epochs (now («first_self» .entry)) (now («first_other» .entry)) (now («later_self» .entry)) (now («later_other» .entry)) (now (fees .entry))) k) (now (pool .entry)) ⌝ }
+    requires { ⌜ Passing (now pool) p e seats epochs × Roomy seats (tableOf (now «first_shares») (now «later_shares»)) × (k < epochs .passed) ⌝ }
+    ensures { λ _. ⌜ now (pool .exit) ≡ imap (epochWord (passOf p e seats epochs (now («first_shares» .entry)) (now («later_shares» .entry))) k) (now (pool .entry)) ⌝ }
 {
     let number = epochs.num_events + k;
     let epoch = epochs.last_updated_epoch.0 + k;
@@ -90,9 +82,9 @@ fn write_epoch(
     let a = image::event_at(p, slot);
     let b = a + (9 + 3 * p);
     if k == 0 {
-        write_event(&mut pool[a..b], seats, head, first_self, first_other, fees);
+        write_event(&mut pool[a..b], seats, head, first_shares);
     } else {
-        write_event(&mut pool[a..b], seats, head, later_self, later_other, fees);
+        write_event(&mut pool[a..b], seats, head, later_shares);
     }
 }
 
@@ -103,14 +95,11 @@ pub fn write_events(
     e: usize,
     seats: usize,
     epochs: PassedEpochs,
-    first_self: &[u64; 1024],
-    first_other: &[u64; 1024],
-    later_self: &[u64; 1024],
-    later_other: &[u64; 1024],
-    fees: &[u64; 1024],
+    first_shares: &[u64],
+    later_shares: &[u64],
 )
-    requires { ⌜ Passing (now pool) p e seats epochs ⌝ }
-    ensures { λ _. ⌜ now (pool .exit) ≡ imap (eventsWord (passOf p e seats epochs (now («first_self» .entry)) (now («first_other» .entry)) (now («later_self» .entry)) (now («later_other» .entry)) (now (fees .entry))) (epochs .passed)) (now (pool .entry)) ⌝ }
+    requires { ⌜ Passing (now pool) p e seats epochs × Roomy seats (tableOf (now «first_shares») (now «later_shares»)) ⌝ }
+    ensures { λ _. ⌜ now (pool .exit) ≡ imap (eventsWord (passOf p e seats epochs (now («first_shares» .entry)) (now («later_shares» .entry))) (epochs .passed)) (now (pool .entry)) ⌝ }
 {
     let passed = epochs.passed;
     let mut k: u64 = 0;
@@ -118,19 +107,7 @@ pub fn write_events(
         k = passed - e as u64;
     }
     while k < passed {
-        write_epoch(
-            pool,
-            p,
-            e,
-            seats,
-            epochs,
-            k,
-            first_self,
-            first_other,
-            later_self,
-            later_other,
-            fees,
-        );
+        write_epoch(pool, p, e, seats, epochs, k, first_shares, later_shares);
         k += 1;
     }
 }

@@ -37,31 +37,17 @@ pub fn write_advance(
     e: usize,
     m: &[u8],
     accepted: Accepted,
-    first_self: &[u64; 1024],
-    first_other: &[u64; 1024],
-    later_self: &[u64; 1024],
-    later_other: &[u64; 1024],
-    fees: &[u64; 1024],
+    first_shares: &[u64],
+    later_shares: &[u64],
 )
-    requires { ⌜ Worked p e (now pool) (now m) (accepted .seats) (accepted .rows) (accepted .marks .words) (tableOf (now «first_self») (now «first_other») (now «later_self») (now «later_other») (now fees)) (accepted .epoch .0) (accepted .«set_aside» .0) ⌝ }
+    requires { ⌜ Worked p e (now pool) (now m) (accepted .seats) (accepted .rows) (accepted .marks .words) (tableOf (now «first_shares») (now «later_shares»)) (accepted .epoch .0) (accepted .«set_aside» .0) ⌝ }
     ensures { λ _. ⌜ now (pool .exit) ≡ image p e (advancedWords p e (read p e (now (pool .entry))) (now (m .entry)) (accepted .epoch .0) (accepted .y .0) (accepted .«set_aside» .0)) ⌝ }
 {
     let epoch = accepted.epoch;
     let y = accepted.y;
     let seats = accepted.seats;
     let epochs = passed_epochs(&pool[..], p, e, epoch, y);
-    write_events(
-        pool,
-        p,
-        e,
-        seats,
-        epochs,
-        first_self,
-        first_other,
-        later_self,
-        later_other,
-        fees,
-    );
+    write_events(pool, p, e, seats, epochs, first_shares, later_shares);
     roll_sides(pool, p, e, seats);
     let rows = accepted.rows;
     let marks = accepted.marks;

@@ -1,10 +1,12 @@
 // Items 4 and 5: an advance and a forecast, on an image and a message that have been checked.
 ghost use mathlib.Core.Path.{_≡_};
 ghost use mathlib.Core.Bool.{false};
+ghost use Prim.Native.Nat.{_≤_};
+ghost use lib.ListN.{length};
 ghost use Rattle.image.specs.Layout.{read};
 ghost use Rattle.advance_plan.specs.Advance.{advanceOf, forecastOf};
 ghost use Rattle.advance_plan.specs.Plan.{Ready, PlannedAs};
-ghost use Rattle.advance_plan.specs.Stake.{tableOf};
+ghost use Rattle.advance_plan.specs.Stake.{tableOf, Roomy};
 ghost use Rattle.pool.specs.Answers.{advanceIs, forecastIs, acceptedOf, doneOf, imageAfter};
 use advance_plan::Given;
 use advance_plan::plan::AdvancePlan;
@@ -73,13 +75,10 @@ fn write_planned(
     m: &[u8],
     given: Given,
     plan: AdvancePlan,
-    first_self: &[u64; 1024],
-    first_other: &[u64; 1024],
-    later_self: &[u64; 1024],
-    later_other: &[u64; 1024],
-    fees: &[u64; 1024],
+    first_shares: &[u64],
+    later_shares: &[u64],
 ) -> AdvanceAnswer
-    requires { ⌜ PlannedAs p e (now pool) (now m) given false (tableOf (now «first_self») (now «first_other») (now «later_self») (now «later_other») (now fees)) plan ⌝ }
+    requires { ⌜ PlannedAs p e (now pool) (now m) given false (tableOf (now «first_shares») (now «later_shares»)) plan ⌝ }
     ensures { λ r. ⌜ (advanceIs r ≡ advanceOf p (read p e (now (pool .entry))) (now (m .entry)) given) × (now (pool .exit) ≡ imageAfter p e (now (pool .entry)) (now (m .entry)) given (advanceOf p (read p e (now (pool .entry))) (now (m .entry)) given)) ⌝ }
 {
     let marks = plan.marks;
@@ -88,34 +87,27 @@ fn write_planned(
         Planned::Refused(k) => AdvanceAnswer::Refused(k),
         Planned::Rewards { y, set_aside } => {
             let accepted = accepted_from(plan, given, y, set_aside);
-            write_advance(
-                pool,
-                p,
-                e,
-                m,
-                accepted,
-                first_self,
-                first_other,
-                later_self,
-                later_other,
-                fees,
-            );
+            write_advance(pool, p, e, m, accepted, first_shares, later_shares);
             let counts = row_counts(marks, plan.rows, p - plan.seats);
             done(y, set_aside, counts)
         }
     }
 }
 
-// All is worked out and tested before the first word is written.
-pub fn advance(pool: &mut [u64], p: usize, e: usize, m: &[u8], given: Given) -> AdvanceAnswer
-    requires { ⌜ Ready p e (now pool) (now m) (given .«epoch_duration») ⌝ }
+// An advance, with room for caps, ratios and fees. All is worked out and tested before the first word is written.
+fn advance_with(
+    pool: &mut [u64],
+    p: usize,
+    e: usize,
+    m: &[u8],
+    given: Given,
+    caps: &mut [u64],
+    first_shares: &mut [u64],
+    later_shares: &mut [u64],
+) -> AdvanceAnswer
+    requires { ⌜ Ready p e (now pool) (now m) (given .«epoch_duration») × (p ≤ length (now caps)) × Roomy p (tableOf (now «first_shares») (now «later_shares»)) ⌝ }
     ensures { λ r. ⌜ (advanceIs r ≡ advanceOf p (read p e (now (pool .entry))) (now (m .entry)) given) × (now (pool .exit) ≡ imageAfter p e (now (pool .entry)) (now (m .entry)) given (advanceOf p (read p e (now (pool .entry))) (now (m .entry)) given)) ⌝ }
 {
-    let mut first_self = [0u64; 1024];
-    let mut first_other = [0u64; 1024];
-    let mut later_self = [0u64; 1024];
-    let mut later_other = [0u64; 1024];
-    let mut fees = [0u64; 1024];
     let worked_out = plan(
         &pool[..],
         p,
@@ -123,11 +115,9 @@ pub fn advance(pool: &mut [u64], p: usize, e: usize, m: &[u8], given: Given) -> 
         m,
         given,
         false,
-        &mut first_self,
-        &mut first_other,
-        &mut later_self,
-        &mut later_other,
-        &mut fees,
+        caps,
+        first_shares,
+        later_shares,
     );
     write_planned(
         pool,
@@ -136,11 +126,51 @@ pub fn advance(pool: &mut [u64], p: usize, e: usize, m: &[u8], given: Given) -> 
         m,
         given,
         worked_out,
-        &first_self,
-        &first_other,
-        &later_self,
-        &later_other,
-        &fees,
+        &first_shares[..],
+        &later_shares[..],
+    )
+}
+
+// With room for 64 seats: what a small pool does not need is not cleared.
+fn advance_small(pool: &mut [u64], p: usize, e: usize, m: &[u8], given: Given) -> AdvanceAnswer
+    requires { ⌜ Ready p e (now pool) (now m) (given .«epoch_duration») × (p ≤ 64) ⌝ }
+    ensures { λ r. ⌜ (advanceIs r ≡ advanceOf p (read p e (now (pool .entry))) (now (m .entry)) given) × (now (pool .exit) ≡ imageAfter p e (now (pool .entry)) (now (m .entry)) given (advanceOf p (read p e (now (pool .entry))) (now (m .entry)) given)) ⌝ }
+{
+    let mut caps = [0u64; 64];
+    let mut first_shares = [0u64; 192];
+    let mut later_shares = [0u64; 192];
+    advance_with(
+        pool,
+        p,
+        e,
+        m,
+        given,
+        &mut caps,
+        &mut first_shares,
+        &mut later_shares,
+    )
+}
+
+// With room for as many seats as there may be.
+pub fn advance(pool: &mut [u64], p: usize, e: usize, m: &[u8], given: Given) -> AdvanceAnswer
+    requires { ⌜ Ready p e (now pool) (now m) (given .«epoch_duration») ⌝ }
+    ensures { λ r. ⌜ (advanceIs r ≡ advanceOf p (read p e (now (pool .entry))) (now (m .entry)) given) × (now (pool .exit) ≡ imageAfter p e (now (pool .entry)) (now (m .entry)) given (advanceOf p (read p e (now (pool .entry))) (now (m .entry)) given)) ⌝ }
+{
+    if p <= 64 {
+        return advance_small(pool, p, e, m, given);
+    }
+    let mut caps = [0u64; 1024];
+    let mut first_shares = [0u64; 3072];
+    let mut later_shares = [0u64; 3072];
+    advance_with(
+        pool,
+        p,
+        e,
+        m,
+        given,
+        &mut caps,
+        &mut first_shares,
+        &mut later_shares,
     )
 }
 
@@ -149,11 +179,9 @@ pub fn forecast(pool: &[u64], p: usize, e: usize, m: &[u8], given: Given) -> For
     requires { ⌜ Ready p e (now pool) (now m) (given .«epoch_duration») ⌝ }
     ensures { λ r. ⌜ forecastIs r ≡ forecastOf p (read p e (now (pool .entry))) (now (m .entry)) given ⌝ }
 {
-    let mut first_self = [0u64; 1024];
-    let mut first_other = [0u64; 1024];
-    let mut later_self = [0u64; 1024];
-    let mut later_other = [0u64; 1024];
-    let mut fees = [0u64; 1024];
+    let mut caps = [0u64; 1024];
+    let mut first_shares = [0u64; 3072];
+    let mut later_shares = [0u64; 3072];
     let worked_out = plan(
         pool,
         p,
@@ -161,11 +189,9 @@ pub fn forecast(pool: &[u64], p: usize, e: usize, m: &[u8], given: Given) -> For
         m,
         given,
         true,
-        &mut first_self,
-        &mut first_other,
-        &mut later_self,
-        &mut later_other,
-        &mut fees,
+        &mut caps,
+        &mut first_shares,
+        &mut later_shares,
     );
     let planned = worked_out.planned;
     match planned {

@@ -8,14 +8,15 @@ use Rattle.advance_write.specs.Events.{sharesWord}
 use Rattle.advance_write.proofs.EventLaws.{seats-turn, event-done}
 use borrow.Author.Needs.{needs}
 use native.Mathlib.Omega.{arith}
+use borrow.Author.Needs.{needs}
 use Rattle.advance_write.proofs.events.write_event.Statement.{statement}
 use Rattle.advance_write.proofs.events.write_event.Tie as tie
 
 abbrev Inv-loop : tie.InvT-loop
-Inv-loop event₀ seats self-ratios other-ratios fees s₀ event s = (s ≤ seats) × (9 + 3 * seats ≤ length event) × Anew (sharesWord (record { self = self-ratios; other = other-ratios; fees = fees }) s) event₀ event
+Inv-loop event₀ seats shares s₀ event s = (s ≤ seats) × (9 + 3 * seats ≤ length event) × Anew (sharesWord shares s) event₀ event
 
 abbrev μ-loop : tie.MeasureT-loop
-μ-loop event₀ seats self-ratios other-ratios fees s₀ event s = seats - s
+μ-loop event₀ seats shares s₀ event s = seats - s
 
 slice-write-event : tie.Need-slice-write-event Inv-loop μ-loop
 slice-write-event c = search needs
@@ -32,11 +33,14 @@ mul-at c = search needs
 add-at : tie.Need-add-at Inv-loop μ-loop
 add-at c = search needs
 
+mul-from : tie.Need-mul-from Inv-loop μ-loop
+mul-from c = search needs
+
 mul-event : tie.Need-mul-event Inv-loop μ-loop
 mul-event c = search needs
 
-element-copy-out-event : tie.Need-element-copy-out-event Inv-loop μ-loop
-element-copy-out-event c = search needs
+shared-slice-read-event : tie.Need-shared-slice-read-event Inv-loop μ-loop
+shared-slice-read-event c = search needs
 
 mul-event-2 : tie.Need-mul-event-2 Inv-loop μ-loop
 mul-event-2 c = search needs
@@ -44,14 +48,17 @@ mul-event-2 c = search needs
 slice-write-event-3 : tie.Need-slice-write-event-3 Inv-loop μ-loop
 slice-write-event-3 c = search needs
 
+add-event : tie.Need-add-event Inv-loop μ-loop
+add-event c = search needs
+
 mul-event-3 : tie.Need-mul-event-3 Inv-loop μ-loop
 mul-event-3 c = search needs
 
-element-copy-out-event-2 : tie.Need-element-copy-out-event-2 Inv-loop μ-loop
-element-copy-out-event-2 c = search needs
+shared-slice-read-event-2 : tie.Need-shared-slice-read-event-2 Inv-loop μ-loop
+shared-slice-read-event-2 c = search needs
 
-add-event : tie.Need-add-event Inv-loop μ-loop
-add-event c = search needs
+add-event-2 : tie.Need-add-event-2 Inv-loop μ-loop
+add-event-2 c = search needs
 
 mul-event-4 : tie.Need-mul-event-4 Inv-loop μ-loop
 mul-event-4 c = search needs
@@ -59,14 +66,17 @@ mul-event-4 c = search needs
 slice-write-event-4 : tie.Need-slice-write-event-4 Inv-loop μ-loop
 slice-write-event-4 c = simp length-set (omega arith)
 
+add-event-3 : tie.Need-add-event-3 Inv-loop μ-loop
+add-event-3 c = search needs
+
 mul-event-5 : tie.Need-mul-event-5 Inv-loop μ-loop
 mul-event-5 c = search needs
 
-element-copy-out-event-3 : tie.Need-element-copy-out-event-3 Inv-loop μ-loop
-element-copy-out-event-3 c = search needs
+shared-slice-read-event-3 : tie.Need-shared-slice-read-event-3 Inv-loop μ-loop
+shared-slice-read-event-3 c = search needs
 
-add-event-2 : tie.Need-add-event-2 Inv-loop μ-loop
-add-event-2 c = search needs
+add-event-4 : tie.Need-add-event-4 Inv-loop μ-loop
+add-event-4 c = search needs
 
 mul-event-6 : tie.Need-mul-event-6 Inv-loop μ-loop
 mul-event-6 c = search needs
@@ -105,18 +115,21 @@ write-event-spec =
     loop-holds
     mul-at
     add-at
+    mul-from
     mul-event
-    element-copy-out-event
+    shared-slice-read-event
     mul-event-2
     slice-write-event-3
-    mul-event-3
-    element-copy-out-event-2
     add-event
+    mul-event-3
+    shared-slice-read-event-2
+    add-event-2
     mul-event-4
     slice-write-event-4
+    add-event-3
     mul-event-5
-    element-copy-out-event-3
-    add-event-2
+    shared-slice-read-event-3
+    add-event-4
     mul-event-6
     slice-write-event-5
     add-s

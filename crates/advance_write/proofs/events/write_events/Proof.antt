@@ -8,16 +8,15 @@ use Rattle.advance_write.specs.Events.{passOf}
 use Rattle.advance_write.proofs.RingLaws.{ringWord, events-none, events-turn, events-done}
 use borrow.Author.Needs.{needs}
 use native.Mathlib.Omega.{arith}
+use borrow.Author.Needs.{needs}
 use Rattle.advance_write.proofs.events.write_events.Statement.{statement}
 use Rattle.advance_write.proofs.events.write_events.Tie as tie
 
 abbrev Inv-loop : tie.InvT-loop
-Inv-loop pool₀ p e seats epochs first-self first-other later-self later-other fees passed k₀ pool k =
-    (k₀ ≤ k) × (k ≤ epochs .passed) × (k₀ ≡ epochs .passed - e) × Sized pool p e
-    × Anew (ringWord (passOf p e seats epochs first-self first-other later-self later-other fees) (k - k₀) k) pool₀ pool
+Inv-loop pool₀ p e seats epochs first-shares later-shares passed k₀ pool k = (k₀ ≤ k) × (k ≤ epochs .passed) × (k₀ ≡ epochs .passed - e) × Sized pool p e × Anew (ringWord (passOf p e seats epochs first-shares later-shares) (k - k₀) k) pool₀ pool
 
 abbrev μ-loop : tie.MeasureT-loop
-μ-loop pool₀ p e seats epochs first-self first-other later-self later-other fees passed k₀ pool k = epochs .passed - k
+μ-loop pool₀ p e seats epochs first-shares later-shares passed k₀ pool k = epochs .passed - k
 
 sub-k : tie.Need-sub-k Inv-loop μ-loop
 sub-k c = search needs
