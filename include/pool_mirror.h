@@ -27,7 +27,7 @@
 #include <stddef.h>
 #include <stdint.h>
 
-#define POOL_MIRROR_VERSION "0.6.0"
+#define POOL_MIRROR_VERSION "0.6.1"
 
 #ifdef __cplusplus
 extern "C" {
@@ -72,7 +72,7 @@ extern "C" {
  * A payment writes the first, a slash the second. A new record is 0 and 0. */
 #define POOL_MIRROR_RECORD_LEN 2
 
-/* Enough for every function, whatever its input. Measured: 51 KiB in advance and forecast, 2 KiB in payment, less than 1 KiB in the others. */
+/* Enough for every function, whatever its input. Measured: 66 KiB in advance and forecast, 4 KiB in payment, less than 1 KiB in the others. */
 #define POOL_MIRROR_STACK 131072
 
 /* The state of a position, for pool_mirror_remove. Any other number is refused where UNLOCKING is. */

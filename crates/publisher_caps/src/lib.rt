@@ -268,7 +268,7 @@ fn has_key(m: &[u8], rows: usize, i: usize, k0: u64, k1: u64, k2: u64, k3: u64) 
     last == k3
 }
 
-// Whether keys with this first word are above those of the rows in front of `low`.
+// True only where keys with this first word are above those of the rows in front of `low`.
 fn above_front(m: &[u8], low: usize, first: u64) -> bool
     requires { ⌜ Whole (now m) × (low ≤ rowsOf (now m)) ⌝ }
     ensures { λ r. ⌜ (r ≡ true → AboveFront (now (m .entry)) low first) ⌝ }
@@ -280,7 +280,7 @@ fn above_front(m: &[u8], low: usize, first: u64) -> bool
     before < first
 }
 
-// Whether they are below those of the rows from `high` on.
+// True only where they are below those of the rows from `high` on.
 fn below_rest(m: &[u8], rows: usize, high: usize, first: u64) -> bool
     requires { ⌜ Whole (now m) × (rows ≡ rowsOf (now m)) ⌝ }
     ensures { λ r. ⌜ (r ≡ true → BelowRest (now (m .entry)) high first) ⌝ }
@@ -292,7 +292,7 @@ fn below_rest(m: &[u8], rows: usize, high: usize, first: u64) -> bool
     first < behind
 }
 
-// Whether a key with this first word stands in the rows from `low` up to `high`, if in any.
+// True only where a key with this first word stands in the rows from `low` up to `high`, if in any.
 fn encloses(m: &[u8], rows: usize, low: usize, high: usize, first: u64) -> bool
     requires { ⌜ Whole (now m) × (rows ≡ rowsOf (now m)) ⌝ }
     ensures { λ r. ⌜ (r ≡ true → Encloses (now (m .entry)) low high first) ⌝ }
