@@ -33,7 +33,7 @@ fn mark_found(words: &mut [u64; 16], found: Found)
 
 // Into how many parts the index divides the keys: at least four for each row, so that most parts have one row at most.
 fn parts_for(rows: usize) -> usize
-    ensures { λ r. ⌜ (0 < r) × (r ≤ 4096) ⌝ }
+    ensures { λ r. ⌜ (0 < r) × (r ≤ 4096) × (rows ≤ 64 → r ≤ 256) ⌝ }
 {
     if rows <= 16 {
         return 64;
@@ -48,8 +48,8 @@ fn parts_for(rows: usize) -> usize
 }
 
 // How many rows are in each part. Nothing is proved of the index: where it is wrong, a row is only found later.
-fn count_rows(m: &[u8], rows: usize, parts: usize, index: &mut [u16; 4096])
-    requires { ⌜ Whole (now m) × (rows ≡ rowsOf (now m)) × (0 < parts) × (parts ≤ 4096) ⌝ }
+fn count_rows(m: &[u8], rows: usize, parts: usize, index: &mut [u16])
+    requires { ⌜ Whole (now m) × (rows ≡ rowsOf (now m)) × (0 < parts) × (parts ≤ 4096) × (parts ≤ length (now index)) ⌝ }
 {
     let mut i = 0;
     while i < rows {
@@ -60,8 +60,8 @@ fn count_rows(m: &[u8], rows: usize, parts: usize, index: &mut [u16; 4096])
 }
 
 // Each count becomes the sum up to it: the row behind those of the part.
-fn sum_counts(parts: usize, index: &mut [u16; 4096])
-    requires { ⌜ parts ≤ 4096 ⌝ }
+fn sum_counts(parts: usize, index: &mut [u16])
+    requires { ⌜ (parts ≤ 4096) × (parts ≤ length (now index)) ⌝ }
 {
     let mut sum: u16 = 0;
     let mut part: usize = 0;
@@ -80,8 +80,8 @@ fn row_number(entry: u16) -> usize
 }
 
 // The row of a key, which the index guesses.
-fn find_row(index: &[u16; 4096], parts: usize, m: &[u8], rows: usize, key: Key) -> Found
-    requires { ⌜ (0 < parts) × (parts ≤ 4096) × Whole (now m) × (rows ≡ rowsOf (now m)) ⌝ }
+fn find_row(index: &[u16], parts: usize, m: &[u8], rows: usize, key: Key) -> Found
+    requires { ⌜ (0 < parts) × (parts ≤ 4096) × (parts ≤ length (now index)) × Whole (now m) × (rows ≡ rowsOf (now m)) ⌝ }
     ensures { λ r. ⌜ r ≡ lookup (now (m .entry)) (numberOf key) 0 rows ⌝ }
 {
     let part = publisher_caps::key_part(key, parts);
@@ -93,7 +93,54 @@ fn find_row(index: &[u16; 4096], parts: usize, m: &[u8], rows: usize, key: Key) 
     publisher_caps::find(m, rows, low, high, key)
 }
 
-// The caps of the first seats go to `caps`; the rows of their keys are marked.
+// The caps of the first seats go to `caps`; the rows of their keys are marked. The index has room for `parts`.
+fn match_indexed(
+    pool: &[u64],
+    p: usize,
+    e: usize,
+    seats: usize,
+    m: &[u8],
+    rows: usize,
+    caps: &mut [u64],
+    parts: usize,
+    index: &mut [u16],
+) -> BoolArray
+    requires { ⌜ Sized (now pool) p e × (seats ≤ p) × Whole (now m) × (rows ≡ rowsOf (now m)) × (p ≤ length (now caps)) × (0 < parts) × (parts ≤ 4096) × (parts ≤ length (now index)) ⌝ }
+    ensures { λ r. ⌜ Matched (read p e (now (pool .entry))) (now (m .entry)) seats (now (caps .exit)) (r .words) ⌝ }
+{
+    count_rows(m, rows, parts, index);
+    sum_counts(parts, index);
+    let mut words = [0u64; 16];
+    let mut s = 0;
+    while s < seats {
+        let key = image::seats::publisher(pool, p, e, s);
+        let found = find_row(&index[..], parts, m, rows, key);
+        mark_found(&mut words, found);
+        caps[s] = publisher_caps::cap_in(m, found);
+        s += 1;
+    }
+    BoolArray { words }
+}
+
+// With a short index: a message of few rows needs no other, and what it does not need is not cleared.
+fn match_few(
+    pool: &[u64],
+    p: usize,
+    e: usize,
+    seats: usize,
+    m: &[u8],
+    rows: usize,
+    caps: &mut [u64],
+) -> BoolArray
+    requires { ⌜ Sized (now pool) p e × (seats ≤ p) × Whole (now m) × (rows ≡ rowsOf (now m)) × (p ≤ length (now caps)) × (rows ≤ 64) ⌝ }
+    ensures { λ r. ⌜ Matched (read p e (now (pool .entry))) (now (m .entry)) seats (now (caps .exit)) (r .words) ⌝ }
+{
+    let mut index = [0u16; 256];
+    let parts = parts_for(rows);
+    match_indexed(pool, p, e, seats, m, rows, caps, parts, &mut index)
+}
+
+// The caps of the first seats, and the marks of the rows of their keys.
 pub fn match_rows(
     pool: &[u64],
     p: usize,
@@ -106,20 +153,12 @@ pub fn match_rows(
     requires { ⌜ Sized (now pool) p e × (seats ≤ p) × Whole (now m) × (rows ≡ rowsOf (now m)) × (p ≤ length (now caps)) ⌝ }
     ensures { λ r. ⌜ Matched (read p e (now (pool .entry))) (now (m .entry)) seats (now (caps .exit)) (r .words) ⌝ }
 {
+    if rows <= 64 {
+        return match_few(pool, p, e, seats, m, rows, caps);
+    }
     let mut index = [0u16; 4096];
     let parts = parts_for(rows);
-    count_rows(m, rows, parts, &mut index);
-    sum_counts(parts, &mut index);
-    let mut words = [0u64; 16];
-    let mut s = 0;
-    while s < seats {
-        let key = image::seats::publisher(pool, p, e, s);
-        let found = find_row(&index, parts, m, rows, key);
-        mark_found(&mut words, found);
-        caps[s] = publisher_caps::cap_in(m, found);
-        s += 1;
-    }
-    BoolArray { words }
+    match_indexed(pool, p, e, seats, m, rows, caps, parts, &mut index)
 }
 
 // Of the unmatched rows as many are seated as seats are left, the others dropped.

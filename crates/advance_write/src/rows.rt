@@ -47,10 +47,11 @@ pub fn seat_rows(
     requires { ⌜ Sized (now pool) p e × (seats ≤ p) × Whole (now m) × (rows ≡ rowsOf (now m)) ⌝ }
     ensures { λ _. ⌜ now (pool .exit) ≡ image p e (keysWords (read p e (now (pool .entry))) (now (m .entry)) (marked (marks .words)) seats rows) ⌝ }
 {
+    let words = marks.words;
     let mut place = seats;
     let mut j = 0;
     while j < rows {
-        let matched = marks.get(j);
+        let matched = BoolArray::get(&words, j);
         place = take_seat(pool, p, e, place, m, j, matched);
         j += 1;
     }

@@ -2,9 +2,10 @@
 use mathlib.Core.Path.{_≡_, refl, sym, ap}
 use mathlib.Core.Bool.{Bool, true, false}
 use Prim.Native.Nat.{ℕ, _+_, _-_, _%_, _≤_, _<_}
+use lib.Dec.{ltb}
 use native.Mathlib.Nat.{mod-eq-of-lt}
 use native.Mathlib.Omega.{arith}
-use borrow.Author.Tests.{le-leb, lt-leb, lt-ltb, le-ltb}
+use borrow.Author.Tests.{ltb-true, ltb-false, le-leb, lt-leb, lt-ltb, le-ltb}
 use Rattle.types.specs.Base.{word, half, refused, accepted}
 use Rattle.types.specs.Refusals.{doesNotFit}
 use Rattle.positions.specs.declared.position.PositionState.{PositionState}
@@ -76,22 +77,33 @@ module _ (total change : ℕ) where
   unfolding rollOf rollFits
   roll-large h = simp (le-ltb total half h)
 
-  pub roll-over : total < half → change < half → half ≤ total + change → refused doesNotFit ≡ rollOf total change
+  -- the sum of the words modulo 2^64 is the signed sum where that is in 0 to 2^63 - 1, and above otherwise
+  pub roll-out : total < half → change < word → half ≤ (total + change) % word → refused doesNotFit ≡ rollOf total change
   unfolding rollOf rollFits
-  roll-over a b h = simp (lt-ltb total half a, lt-ltb change half b, le-ltb (total + change) half h)
+  roll-out a w h = go (ltb change half) refl
+    where
+      go : (t : Bool) → ltb change half ≡ t → refused doesNotFit ≡ rollOf total change
+      go true q =
+          let up = ltb-true change half q in
+          simp (lt-ltb total half a, q, le-ltb (total + change) half (omega arith))
+      go false q =
+          let down = ltb-false change half q in
+          simp (lt-ltb total half a, q, lt-leb (word - change) total (omega arith))
 
-  pub roll-up : total < half → change < half → total + change < half → accepted (record { total = total + change; change = 0 }) ≡ rollOf total change
+  pub roll-in : (v : ℕ) → v ≡ (total + change) % word → total < half → change < word → v < half
+      → accepted (record { total = v; change = 0 }) ≡ rollOf total change
   unfolding rollOf rollFits rolled
-  roll-up a b h = simp (lt-ltb total half a, lt-ltb change half b, lt-ltb (total + change) half h)
-
-  pub roll-under : total < half → half ≤ change → total < word - change → refused doesNotFit ≡ rollOf total change
-  unfolding rollOf rollFits
-  roll-under a b h = simp (lt-ltb total half a, le-ltb change half b, lt-leb (word - change) total h)
-
-  pub roll-down : (less : ℕ) → less ≡ word - change → total < half → half ≤ change → less ≤ total
-      → accepted (record { total = total - less; change = 0 }) ≡ rollOf total change
-  unfolding rollOf rollFits rolled
-  roll-down less q a b h = rw q (simp (lt-ltb total half a, le-ltb change half b, le-leb (word - change) total (rw q at h)))
+  roll-in v e a w h = go (ltb change half) refl
+    where
+      go : (t : Bool) → ltb change half ≡ t → accepted (record { total = v; change = 0 }) ≡ rollOf total change
+      go true q =
+          let up = ltb-true change half q in
+          let is : v ≡ total + change = omega arith in
+          rw is (simp (lt-ltb total half a, q, lt-ltb (total + change) half (omega arith)))
+      go false q =
+          let down = ltb-false change half q in
+          let is : v ≡ total - (word - change) = omega arith in
+          rw is (simp (lt-ltb total half a, q, le-leb (word - change) total (omega arith)))
 
   -- 13 exactly where the roll does not fit, and else the rolled total with change 0
   pub roll-not : rollFits total change ≡ false → rollOf total change ≡ refused doesNotFit

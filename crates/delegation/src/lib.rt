@@ -3,6 +3,7 @@ ghost use mathlib.Core.Path.{_≡_};
 ghost use Rattle.delegation.specs.Side.{raisedOf, loweredOf, deltaIs, rollOf, addOf, removeIn, removeOf, slashOf, changedIs, removedIs};
 ghost use Rattle.positions.specs.declared.position.PositionState.the-variants.{LOCKED};
 use positions::position::PositionState;
+use std::num::wrapping_add_u64;
 use types::Amount;
 
 pub struct DelegationState {
@@ -72,31 +73,20 @@ fn lower(delta: u64, amount: u64) -> Delta
 }
 
 impl DelegationState {
-    // Into the next epoch: total + change, and change 0.
+    // Into the next epoch: total + change, and change 0. The signed sum is the words' sum modulo 2^64, so that no branch depends on the sign.
     pub fn roll(self) -> Changed
         ensures { λ r. ⌜ changedIs r ≡ rollOf (self .«total_delegation» .0) (self .«delta_delegation») ⌝ }
     {
         let total = self.total_delegation.0;
-        let delta = self.delta_delegation;
+        let sum = wrapping_add_u64(total, self.delta_delegation);
         if HALF <= total {
             return Changed::DoesNotFit;
         }
-        if delta < HALF {
-            let sum = total + delta;
-            if HALF <= sum {
-                return Changed::DoesNotFit;
-            }
-            return Changed::Into(DelegationState {
-                total_delegation: Amount(sum),
-                delta_delegation: 0,
-            });
-        }
-        let less = u64::MAX - delta + 1;
-        if total < less {
+        if HALF <= sum {
             return Changed::DoesNotFit;
         }
         Changed::Into(DelegationState {
-            total_delegation: Amount(total - less),
+            total_delegation: Amount(sum),
             delta_delegation: 0,
         })
     }

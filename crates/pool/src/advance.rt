@@ -20,6 +20,9 @@ use types::Amount;
 use types::Epoch;
 use types::Ratio;
 
+// The seats of a small pool, at most: such a one has short lists, since clearing long ones would take more than all else.
+const SMALL: usize = 64;
+
 pub enum AdvanceAnswer {
     // y', the amount set aside, and how many rows are matched, seated and dropped.
     Done {
@@ -131,7 +134,7 @@ fn advance_with(
     )
 }
 
-// With room for 64 seats: what a small pool does not need is not cleared.
+// With room for a small pool.
 fn advance_small(pool: &mut [u64], p: usize, e: usize, m: &[u8], given: Given) -> AdvanceAnswer
     requires { ⌜ Ready p e (now pool) (now m) (given .«epoch_duration») × (p ≤ 64) ⌝ }
     ensures { λ r. ⌜ (advanceIs r ≡ advanceOf p (read p e (now (pool .entry))) (now (m .entry)) given) × (now (pool .exit) ≡ imageAfter p e (now (pool .entry)) (now (m .entry)) given (advanceOf p (read p e (now (pool .entry))) (now (m .entry)) given)) ⌝ }
@@ -156,7 +159,7 @@ pub fn advance(pool: &mut [u64], p: usize, e: usize, m: &[u8], given: Given) -> 
     requires { ⌜ Ready p e (now pool) (now m) (given .«epoch_duration») ⌝ }
     ensures { λ r. ⌜ (advanceIs r ≡ advanceOf p (read p e (now (pool .entry))) (now (m .entry)) given) × (now (pool .exit) ≡ imageAfter p e (now (pool .entry)) (now (m .entry)) given (advanceOf p (read p e (now (pool .entry))) (now (m .entry)) given)) ⌝ }
 {
-    if p <= 64 {
+    if p <= SMALL {
         return advance_small(pool, p, e, m, given);
     }
     let mut caps = [0u64; 1024];
@@ -174,28 +177,67 @@ pub fn advance(pool: &mut [u64], p: usize, e: usize, m: &[u8], given: Given) -> 
     )
 }
 
-// What an advance would set aside, every passed epoch taken at the rolled totals. Nothing is written.
-pub fn forecast(pool: &[u64], p: usize, e: usize, m: &[u8], given: Given) -> ForecastAnswer
-    requires { ⌜ Ready p e (now pool) (now m) (given .«epoch_duration») ⌝ }
+// What an advance would set aside, every passed epoch taken at the rolled totals, with room as for an advance. Nothing is written.
+fn forecast_with(
+    pool: &[u64],
+    p: usize,
+    e: usize,
+    m: &[u8],
+    given: Given,
+    caps: &mut [u64],
+    first_shares: &mut [u64],
+    later_shares: &mut [u64],
+) -> ForecastAnswer
+    requires { ⌜ Ready p e (now pool) (now m) (given .«epoch_duration») × (p ≤ length (now caps)) × Roomy p (tableOf (now «first_shares») (now «later_shares»)) ⌝ }
     ensures { λ r. ⌜ forecastIs r ≡ forecastOf p (read p e (now (pool .entry))) (now (m .entry)) given ⌝ }
 {
-    let mut caps = [0u64; 1024];
-    let mut first_shares = [0u64; 3072];
-    let mut later_shares = [0u64; 3072];
-    let worked_out = plan(
-        pool,
-        p,
-        e,
-        m,
-        given,
-        true,
-        &mut caps,
-        &mut first_shares,
-        &mut later_shares,
-    );
+    let worked_out = plan(pool, p, e, m, given, true, caps, first_shares, later_shares);
     let planned = worked_out.planned;
     match planned {
         Planned::Refused(k) => ForecastAnswer::Refused(k),
         Planned::Rewards { y: _, set_aside } => ForecastAnswer::SetsAside(set_aside),
     }
+}
+
+// With room for a small pool.
+fn forecast_small(pool: &[u64], p: usize, e: usize, m: &[u8], given: Given) -> ForecastAnswer
+    requires { ⌜ Ready p e (now pool) (now m) (given .«epoch_duration») × (p ≤ 64) ⌝ }
+    ensures { λ r. ⌜ forecastIs r ≡ forecastOf p (read p e (now (pool .entry))) (now (m .entry)) given ⌝ }
+{
+    let mut caps = [0u64; 64];
+    let mut first_shares = [0u64; 192];
+    let mut later_shares = [0u64; 192];
+    forecast_with(
+        pool,
+        p,
+        e,
+        m,
+        given,
+        &mut caps,
+        &mut first_shares,
+        &mut later_shares,
+    )
+}
+
+// With room for as many seats as there may be.
+pub fn forecast(pool: &[u64], p: usize, e: usize, m: &[u8], given: Given) -> ForecastAnswer
+    requires { ⌜ Ready p e (now pool) (now m) (given .«epoch_duration») ⌝ }
+    ensures { λ r. ⌜ forecastIs r ≡ forecastOf p (read p e (now (pool .entry))) (now (m .entry)) given ⌝ }
+{
+    if p <= SMALL {
+        return forecast_small(pool, p, e, m, given);
+    }
+    let mut caps = [0u64; 1024];
+    let mut first_shares = [0u64; 3072];
+    let mut later_shares = [0u64; 3072];
+    forecast_with(
+        pool,
+        p,
+        e,
+        m,
+        given,
+        &mut caps,
+        &mut first_shares,
+        &mut later_shares,
+    )
 }

@@ -22,14 +22,14 @@ impl BoolArray {
         BoolArray { words: [0u64; 16] }
     }
 
-    // Whether row i is marked.
-    pub fn get(self, i: usize) -> bool
-        ensures { λ r. ⌜ r ≡ marked (self .words) i ⌝ }
+    // Whether row i is marked in the marks' words.
+    pub fn get(words: &[u64; 16], i: usize) -> bool
+        ensures { λ r. ⌜ r ≡ marked (now (words .entry)) i ⌝ }
     {
         if 1024 <= i {
             return false;
         }
-        let w = self.words[i / 64];
+        let w = words[i / 64];
         (w >> (i % 64)) % 2 == 1
     }
 

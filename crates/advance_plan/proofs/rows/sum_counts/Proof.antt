@@ -1,24 +1,26 @@
 -- `advance_plan::rows::sum_counts` meets its contract. Assumes nothing.
 use Prim.Native.Nat.{_-_, _≤_}
-use borrow.Author.Needs.{needs}
+use mathlib.Core.Path.{_≡_, refl}
+use lib.ListN.{length, length-set}
+use native.Mathlib.Omega.{arith}
 use borrow.Author.Needs.{needs}
 use Rattle.advance_plan.proofs.rows.sum_counts.Statement.{statement}
 use Rattle.advance_plan.proofs.rows.sum_counts.Tie as tie
 
 abbrev Inv-loop : tie.InvT-loop
-Inv-loop parts index₀ sum₀ part₀ index sum part = part ≤ parts
+Inv-loop parts index₀ sum₀ part₀ index sum part = (part ≤ parts) × (length index ≡ length index₀)
 
 abbrev μ-loop : tie.MeasureT-loop
 μ-loop parts index₀ sum₀ part₀ index sum part = parts - part
 
 loop-holds : tie.Need-loop-holds Inv-loop μ-loop
-loop-holds c = search needs
+loop-holds c = (omega arith, refl)
 
 mul-wrapping-add-u16 : tie.Need-mul-wrapping-add-u16 Inv-loop μ-loop
 mul-wrapping-add-u16 c = search needs
 
-element-copy-out-wrapping-add-u16 : tie.Need-element-copy-out-wrapping-add-u16 Inv-loop μ-loop
-element-copy-out-wrapping-add-u16 c = search needs
+slice-read-wrapping-add-u16 : tie.Need-slice-read-wrapping-add-u16 Inv-loop μ-loop
+slice-read-wrapping-add-u16 c = search needs
 
 wrapping-add-u16-requires : tie.Need-wrapping-add-u16-requires Inv-loop μ-loop
 wrapping-add-u16-requires c κs = search needs
@@ -26,8 +28,8 @@ wrapping-add-u16-requires c κs = search needs
 mul-index : tie.Need-mul-index Inv-loop μ-loop
 mul-index c = search needs
 
-element-write-index : tie.Need-element-write-index Inv-loop μ-loop
-element-write-index c = search needs
+slice-write-index : tie.Need-slice-write-index Inv-loop μ-loop
+slice-write-index c = search needs
 
 add-part : tie.Need-add-part Inv-loop μ-loop
 add-part c = search needs
@@ -36,7 +38,10 @@ loop-less : tie.Need-loop-less Inv-loop μ-loop
 loop-less c = search needs
 
 loop-again : tie.Need-loop-again Inv-loop μ-loop
-loop-again c = search needs
+loop-again c = (omega arith, simp length-set (omega arith))
+
+same-length : tie.Need-same-length Inv-loop μ-loop
+same-length c = c .before .loop .inv .1
 
 returns : tie.Need-returns Inv-loop μ-loop
 returns c = search needs
@@ -49,11 +54,12 @@ sum-counts-spec =
     μ-loop
     loop-holds
     mul-wrapping-add-u16
-    element-copy-out-wrapping-add-u16
+    slice-read-wrapping-add-u16
     wrapping-add-u16-requires
     mul-index
-    element-write-index
+    slice-write-index
     add-part
     loop-less
     loop-again
+    same-length
     returns)
