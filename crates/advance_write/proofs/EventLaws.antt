@@ -1,4 +1,4 @@
--- The words of one event: a turn of the loop over the seats, what it leaves, and an event written over another. Assumes nothing.
+-- The words of one event: a turn of the loop over the seats' words, what it leaves, and an event written over another. Assumes nothing.
 use mathlib.Core.Path.{_≡_, sym, _∙_, ap}
 use mathlib.Core.Logic.{_⊎_, ⊎-elim, _≢_}
 use mathlib.Core.List.{List}
@@ -10,38 +10,25 @@ use Rattle.image.specs.Lists.{imap}
 use Rattle.image.proofs.ListLaws.{if-lt, if-le, lt-or-le, Anew, anew-is}
 use Rattle.image.proofs.StrideLaws.{strided-before, strided-behind, strided-at, strided-turn, in-run}
 use Rattle.advance_write.specs.declared.events.EventHead.{EventHead}
-use Rattle.advance_write.specs.Events.{shareAt, shareAnew, sharesWord, eventWord}
+use Rattle.advance_write.specs.Events.{shareAnew, sharesWord, eventWord}
 
--- a turn of the loop: one more seat
-module _ (r : List ℕ) (i : ℕ) (old l : List ℕ) (b : 9 + i * 3 + 2 < length l) (h : Anew (sharesWord r i) old l) where
+-- a turn of the loop: one more word
+module _ (r : List ℕ) (i : ℕ) (old l : List ℕ) (b : 9 + i < length l) (h : Anew (sharesWord r i) old l) where
   abbrev turned : List ℕ
-  turned = set (set (set l (9 + i * 3) (getD r (i * 3) 0)) (9 + i * 3 + 1) (getD r (i * 3 + 1) 0)) (9 + i * 3 + 2) (getD r (i * 3 + 2) 0)
+  turned = set l (9 + i) (getD r i 0)
 
-  kept : (j : ℕ) → (j < 9 + i * 3) ⊎ (9 + i * 3 + 3 ≤ j) → getD turned j 0 ≡ getD l j 0
+  kept : (j : ℕ) → (j < 9 + i * 1) ⊎ (9 + i * 1 + 1 ≤ j) → getD turned j 0 ≡ getD l j 0
   kept j s =
-      let n0 : j ≢ 9 + i * 3 = ⊎-elim (λ x. omega arith) (λ x. omega arith) s in
-      let n1 : j ≢ 9 + i * 3 + 1 = ⊎-elim (λ x. omega arith) (λ x. omega arith) s in
-      let n2 : j ≢ 9 + i * 3 + 2 = ⊎-elim (λ x. omega arith) (λ x. omega arith) s in
+      let n : j ≢ 9 + i = ⊎-elim (λ x. omega arith) (λ x. omega arith) s in
       simp getD-set-other
 
-  new : (m : ℕ) → m < 3 → getD turned (9 + i * 3 + m) 0 ≡ shareAt r i m
-  new zero c =
-      let e : 9 + i * 3 + 0 ≡ 9 + i * 3 = omega arith in
-      let n1 : 9 + i * 3 ≢ 9 + i * 3 + 1 = omega arith in
-      let n2 : 9 + i * 3 ≢ 9 + i * 3 + 2 = omega arith in
-      let b0 : 9 + i * 3 < length l = omega arith in
-      rw e (simp (getD-set-other, getD-set-same))
-  new (suc zero) c =
-      let n2 : 9 + i * 3 + 1 ≢ 9 + i * 3 + 2 = omega arith in
-      let b1 : 9 + i * 3 + 1 < length (set l (9 + i * 3) (getD r (i * 3) 0)) = simp length-set (omega arith) in
-      simp (getD-set-other, getD-set-same)
-  new (suc (suc zero)) c =
-      let b2 : 9 + i * 3 + 2 < length (set (set l (9 + i * 3) (getD r (i * 3) 0)) (9 + i * 3 + 1) (getD r (i * 3 + 1) 0)) = simp length-set (omega arith) in
-      simp getD-set-same
-  new (suc (suc (suc m))) c = absurd (omega arith)
+  new : (m : ℕ) → m < 1 → getD turned (9 + i * 1 + m) 0 ≡ getD r i 0
+  new m c =
+      let e : 9 + i * 1 + m ≡ 9 + i = omega arith in
+      rw e (simp getD-set-same)
 
-  pub seats-turn : Anew (sharesWord r (i + 1)) old turned
-  seats-turn = strided-turn 9 3 (shareAnew r) i old l turned (omega arith) h (simp length-set) kept new
+  pub words-turn : Anew (sharesWord r (i + 1)) old turned
+  words-turn = strided-turn 9 1 (shareAnew r) i old l turned (omega arith) h (simp length-set) kept new
 
 -- an event's words: epoch, y, and from word 2 on as the seats are written
 module _ (h : EventHead) (r : List ℕ) (seats o : ℕ) where
@@ -53,7 +40,7 @@ module _ (h : EventHead) (r : List ℕ) (seats o : ℕ) where
   unfolding eventWord
   event-y j e = if-le j 1 _ _ (omega arith) ∙ if-lt j 2 _ _ (omega arith)
 
-  pub event-more : (j : ℕ) → 2 ≤ j → eventWord h r seats o j ≡ sharesWord r seats o j
+  pub event-more : (j : ℕ) → 2 ≤ j → eventWord h r seats o j ≡ sharesWord r (seats * 3) o j
   unfolding eventWord
   event-more j l = if-le j 1 _ _ (omega arith) ∙ if-le j 2 _ _ l
 
@@ -76,17 +63,17 @@ module _ (h : EventHead) (r : List ℕ) (seats : ℕ) (old : List ℕ) (b : 1 < 
       let n1 : j ≢ 1 = omega arith in
       simp getD-set-other
 
-  done-at : (j : ℕ) → sharesWord r seats (getD (set (set old 0 (h .epoch .0)) 1 (h .y .0)) j 0) j ≡ eventWord h r seats (getD old j 0) j
+  done-at : (j : ℕ) → sharesWord r (seats * 3) (getD (set (set old 0 (h .epoch .0)) 1 (h .y .0)) j 0) j ≡ eventWord h r seats (getD old j 0) j
   done-at j =
       ⊎-elim
-      (λ x. strided-before 9 3 (shareAnew r) seats _ j (omega arith) ∙ ⊎-elim
+      (λ x. strided-before 9 1 (shareAnew r) (seats * 3) _ j (omega arith) ∙ ⊎-elim
       (λ z. let e : j ≡ 0 = omega arith in done-epoch j e ∙ sym (event-epoch h r seats _ j e))
       (λ z. let e : j ≡ 1 = omega arith in done-y j e ∙ sym (event-y h r seats _ j e))
       (lt-or-le j 1))
-      (λ x. ap (λ (o : ℕ). sharesWord r seats o j) (done-more j x) ∙ sym (event-more h r seats _ j x))
+      (λ x. ap (λ (o : ℕ). sharesWord r (seats * 3) o j) (done-more j x) ∙ sym (event-more h r seats _ j x))
       (lt-or-le j 2)
 
-  pub event-done : (l : List ℕ) → Anew (sharesWord r seats) (set (set old 0 (h .epoch .0)) 1 (h .y .0)) l → l ≡ imap (eventWord h r seats) old
+  pub event-done : (l : List ℕ) → Anew (sharesWord r (seats * 3)) (set (set old 0 (h .epoch .0)) 1 (h .y .0)) l → l ≡ imap (eventWord h r seats) old
   event-done l a =
       anew-is (record { same = a .same ∙ simp length-set; word = λ j c. a .word j (simp length-set c) ∙ done-at j })
 
@@ -97,18 +84,18 @@ event-over h h′ r r′ seats o j =
     (λ x. let e : j ≡ 0 = omega arith in event-epoch h r seats _ j e ∙ sym (event-epoch h r seats o j e))
     (λ x. ⊎-elim
     (λ z. let e : j ≡ 1 = omega arith in event-y h r seats _ j e ∙ sym (event-y h r seats o j e))
-    (λ z. event-more h r seats _ j z ∙ ap (λ (x : ℕ). sharesWord r seats x j) (event-more h′ r′ seats o j z) ∙ seats-over j ∙ sym (event-more h r seats o j z))
+    (λ z. event-more h r seats _ j z ∙ ap (λ (x : ℕ). sharesWord r (seats * 3) x j) (event-more h′ r′ seats o j z) ∙ seats-over j ∙ sym (event-more h r seats o j z))
     (lt-or-le j 2))
     (lt-or-le j 1)
   where
-    seats-over : (j : ℕ) → sharesWord r seats (sharesWord r′ seats o j) j ≡ sharesWord r seats o j
+    seats-over : (j : ℕ) → sharesWord r (seats * 3) (sharesWord r′ (seats * 3) o j) j ≡ sharesWord r (seats * 3) o j
     seats-over j =
         ⊎-elim
-        (λ x. strided-before 9 3 (shareAnew r) seats _ j x ∙ strided-before 9 3 (shareAnew r′) seats o j x ∙ sym (strided-before 9 3 (shareAnew r) seats o j x))
+        (λ x. strided-before 9 1 (shareAnew r) (seats * 3) _ j x ∙ strided-before 9 1 (shareAnew r′) (seats * 3) o j x ∙ sym (strided-before 9 1 (shareAnew r) (seats * 3) o j x))
         (λ x. ⊎-elim
-        (λ z. let u = in-run 9 3 seats j (omega arith) x z in
-        strided-at 9 3 (shareAnew r) seats _ (u .rec) (u .word) j (u .rec-lt) (u .word-lt) (u .at)
-        ∙ sym (strided-at 9 3 (shareAnew r) seats o (u .rec) (u .word) j (u .rec-lt) (u .word-lt) (u .at)))
-        (λ z. strided-behind 9 3 (shareAnew r) seats _ j z ∙ strided-behind 9 3 (shareAnew r′) seats o j z ∙ sym (strided-behind 9 3 (shareAnew r) seats o j z))
-        (lt-or-le j (9 + seats * 3)))
+        (λ z. let u = in-run 9 1 (seats * 3) j (omega arith) x z in
+        strided-at 9 1 (shareAnew r) (seats * 3) _ (u .rec) (u .word) j (u .rec-lt) (u .word-lt) (u .at)
+        ∙ sym (strided-at 9 1 (shareAnew r) (seats * 3) o (u .rec) (u .word) j (u .rec-lt) (u .word-lt) (u .at)))
+        (λ z. strided-behind 9 1 (shareAnew r) (seats * 3) _ j z ∙ strided-behind 9 1 (shareAnew r′) (seats * 3) o j z ∙ sym (strided-behind 9 1 (shareAnew r) (seats * 3) o j z))
+        (lt-or-le j (9 + seats * 3 * 1)))
         (lt-or-le j 9)

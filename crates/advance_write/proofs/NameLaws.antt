@@ -20,8 +20,8 @@ use Rattle.image.proofs.HoldsLaws.{Holds}
 use Rattle.advance_plan.specs.Advance.{ratioIn, eventWritten, eventsAfter}
 use Rattle.advance_plan.specs.Stake.{Table, Tabled}
 use Rattle.advance_write.specs.declared.events.PassedEpochs.{PassedEpochs}
-use Rattle.advance_write.specs.Events.{shareAt, Pass, sharesIn, epochWord, eventsWord}
-use Rattle.advance_write.proofs.RingLaws.{epochEvent, epoch-in, epoch-out, epoch-number, epoch-y, epoch-share, epoch-spare, epoch-empty}
+use Rattle.advance_write.specs.Events.{Pass, sharesIn, epochWord, eventsWord}
+use Rattle.advance_write.proofs.RingLaws.{shareAt, epochEvent, epoch-in, epoch-out, epoch-number, epoch-y, epoch-share, epoch-spare, epoch-empty}
 
 module _ (P E : ℕ) (w : Words) (cap : ℕ → ℕ) (seats : ℕ) (x : PassedEpochs) (t : Table) (tb : Tabled w cap seats t) (en : x .«num_events» ≡ w (head numEvents)) (el : x .«last_updated_epoch» .0 ≡ w (head lastUpdatedEpoch)) (pos : 1 ≤ E) where
   abbrev pass : Pass

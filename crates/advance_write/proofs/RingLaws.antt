@@ -17,7 +17,7 @@ use Rattle.image.proofs.AgeLaws.{age, age-lt, age-zero, age-suc}
 use Rattle.image.proofs.PlaceLaws.{slot-fits, slot-of}
 use Rattle.image.proofs.SeatLaws.{read-at}
 use Rattle.advance_write.specs.declared.events.PassedEpochs.{PassedEpochs}
-use Rattle.advance_write.specs.Events.{shareAt, eventWord, passedEpochs, Pass, headIn, sharesIn, epochWord, eventsWord}
+use Rattle.advance_write.specs.Events.{eventWord, passedEpochs, Pass, headIn, sharesIn, epochWord, eventsWord}
 use Rattle.advance_write.proofs.EventLaws.{event-epoch, event-y, event-more, event-over}
 
 -- the number of the first event that is written
@@ -212,6 +212,17 @@ module _ (w : Pass) (k₀ k passed : ℕ) (pos : 1 ≤ w .e) (b : k₀ ≡ passe
   events-done pool l h =
       anew-is (record { same = h .same; word = λ i d. h .word i d ∙ all-newest (getD pool i 0) i ∙ sym (events-ring w passed _ i pos) })
 
+-- seat q's word i: self ratio, other ratio, fee
+abbrev pub shareAt : (shares : List ℕ) → (q i : ℕ) → ℕ
+shareAt shares q zero = getD shares (q * 3) 0
+shareAt shares q (suc zero) = getD shares (q * 3 + 1) 0
+shareAt shares q (suc (suc i)) = getD shares (q * 3 + 2) 0
+
+share-is : (shares : List ℕ) (q i : ℕ) → i < 3 → getD shares (q * 3 + i) 0 ≡ shareAt shares q i
+share-is shares q zero l = ap (λ (j : ℕ). getD shares j 0) (omega arith)
+share-is shares q (suc zero) l = refl
+share-is shares q (suc (suc i)) l = ap (λ (j : ℕ). getD shares j 0) (omega arith)
+
 -- the words of the k-th passed epoch's event
 module _ (w : Pass) (k o : ℕ) where
   pub epoch-number : epochEvent w k o 0 ≡ w .epochs .«last_updated_epoch» .0 + k
@@ -224,13 +235,13 @@ module _ (w : Pass) (k o : ℕ) where
 
   pub epoch-share : (q i : ℕ) → q < w .seats → i < 3 → epochEvent w k o (9 + q * 3 + i) ≡ shareAt (sharesIn (w .table) k) q i
   unfolding epochEvent
-  epoch-share q i a b = event-more _ _ _ o _ (omega arith) ∙ strided-at 9 3 _ _ o q i _ a b refl
+  epoch-share q i a b = event-more _ _ _ o _ (omega arith) ∙ strided-at 9 1 _ _ o (q * 3 + i) 0 _ (omega arith) (omega arith) (omega arith) ∙ share-is _ q i b
 
   -- words that it leaves
   pub epoch-spare : (j : ℕ) → 2 ≤ j → j < 9 → epochEvent w k o j ≡ o
   unfolding epochEvent
-  epoch-spare j a b = event-more _ _ _ o j a ∙ strided-before 9 3 _ _ o j b
+  epoch-spare j a b = event-more _ _ _ o j a ∙ strided-before 9 1 _ _ o j b
 
   pub epoch-empty : (j : ℕ) → 9 + w .seats * 3 ≤ j → epochEvent w k o j ≡ o
   unfolding epochEvent
-  epoch-empty j a = event-more _ _ _ o j (omega arith) ∙ strided-behind 9 3 _ _ o j a
+  epoch-empty j a = event-more _ _ _ o j (omega arith) ∙ strided-behind 9 1 _ _ o j (omega arith)

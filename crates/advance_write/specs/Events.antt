@@ -14,23 +14,17 @@ use Rattle.advance_write.specs.declared.events.PassedEpochs.{PassedEpoch
 
 -- ---- an event
 
--- seat q's word i: self ratio, other ratio, fee
-abbrev pub shareAt : (shares : List ℕ) → (q i : ℕ) → ℕ
-shareAt shares q zero = getD shares (q * 3) 0
-shareAt shares q (suc zero) = getD shares (q * 3 + 1) 0
-shareAt shares q (suc (suc i)) = getD shares (q * 3 + 2) 0
+-- word q of the seats' words, whatever it was
+abbrev pub shareAnew : (shares : List ℕ) → (o q i : ℕ) → ℕ
+shareAnew shares o q i = getD shares q 0
 
--- the same, whatever it was
-abbrev pub shareAnew : List ℕ → (o q i : ℕ) → ℕ
-shareAnew r o q i = shareAt r q i
-
--- word j of an event, where it was o, with the words of the first k seats written
-abbrev pub sharesWord : List ℕ → (k o j : ℕ) → ℕ
-sharesWord r k = strided 9 3 (shareAnew r) k
+-- word j of an event, where it was o, with the first n of the seats' words written, self ratio, other ratio and fee for each seat
+abbrev pub sharesWord : (shares : List ℕ) → (n o j : ℕ) → ℕ
+sharesWord shares n = strided 9 1 (shareAnew shares) n
 
 -- word j of an event, where it was o, once it is written: spare words and other seats stay
 unfoldable pub eventWord : EventHead → List ℕ → (seats o j : ℕ) → ℕ
-eventWord h r seats o j = ifLt j 1 (h .epoch .0) (ifLt j 2 (h .y .0) (sharesWord r seats o j))
+eventWord h r seats o j = ifLt j 1 (h .epoch .0) (ifLt j 2 (h .y .0) (sharesWord r (seats * 3) o j))
 
 -- ---- the ring of events
 

@@ -46,14 +46,11 @@ fn write_event(event: &mut [u64], seats: usize, head: EventHead, shares: &[u64])
 {
     event[0] = head.epoch.0;
     event[1] = head.y.0;
-    let mut s: usize = 0;
-    while s < seats {
-        let at = 9 + s * 3;
-        let from = s * 3;
-        event[at] = shares[from];
-        event[at + 1] = shares[from + 1];
-        event[at + 2] = shares[from + 2];
-        s += 1;
+    let words = seats * 3;
+    let mut i: usize = 0;
+    while i < words {
+        event[9 + i] = shares[i];
+        i += 1;
     }
 }
 

@@ -4,6 +4,7 @@ ghost use Prim.Native.Nat.{_<_};
 ghost use Rattle.image.specs.Layout.{numSlashEvents, seat, read, image};
 ghost use Rattle.image.specs.Seats.{Sized, sideAt, withSide};
 ghost use Rattle.image.specs.Changes.{selfSide, whose, withSlashEvents, withStakeAccount, withFees};
+use crate::MAX_PUBLISHERS;
 use crate::num_events_at;
 use crate::seats::del_state;
 use crate::seats::publisher_stake_account;
@@ -85,7 +86,7 @@ pub fn set_publisher_stake_account(pool: &mut [u64], p: usize, e: usize, s: usiz
 }
 
 // Every seat gets this fee.
-pub fn set_delegation_fees(pool: &mut [u64], p: usize, e: usize, fee: u64)
+fn fill_fees(pool: &mut [u64], p: usize, e: usize, fee: u64)
     requires { ⌜ Sized (now pool) p e ⌝ }
     ensures { λ _. ⌜ now (pool .exit) ≡ image p e (withFees (read p e (now (pool .entry))) fee) ⌝ }
 {
@@ -94,5 +95,17 @@ pub fn set_delegation_fees(pool: &mut [u64], p: usize, e: usize, fee: u64)
     while s < p {
         pool[at + s] = fee;
         s += 1;
+    }
+}
+
+// The same. A pool of the Rust's own size has a loop for itself: with a constant number of seats the compiler makes a quarter of the turns of it.
+pub fn set_delegation_fees(pool: &mut [u64], p: usize, e: usize, fee: u64)
+    requires { ⌜ Sized (now pool) p e ⌝ }
+    ensures { λ _. ⌜ now (pool .exit) ≡ image p e (withFees (read p e (now (pool .entry))) fee) ⌝ }
+{
+    if p == MAX_PUBLISHERS {
+        fill_fees(pool, MAX_PUBLISHERS, e, fee);
+    } else {
+        fill_fees(pool, p, e, fee);
     }
 }

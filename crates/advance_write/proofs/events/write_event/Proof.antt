@@ -5,18 +5,17 @@ use lib.ListN.{length, length-set}
 use Rattle.image.proofs.ListLaws.{Anew}
 use Rattle.image.proofs.StrideLaws.{strided-none}
 use Rattle.advance_write.specs.Events.{sharesWord}
-use Rattle.advance_write.proofs.EventLaws.{seats-turn, event-done}
-use borrow.Author.Needs.{needs}
+use Rattle.advance_write.proofs.EventLaws.{words-turn, event-done}
 use native.Mathlib.Omega.{arith}
 use borrow.Author.Needs.{needs}
 use Rattle.advance_write.proofs.events.write_event.Statement.{statement}
 use Rattle.advance_write.proofs.events.write_event.Tie as tie
 
 abbrev Inv-loop : tie.InvT-loop
-Inv-loop event₀ seats shares s₀ event s = (s ≤ seats) × (9 + 3 * seats ≤ length event) × Anew (sharesWord shares s) event₀ event
+Inv-loop event₀ seats shares words i₀ event i = (i ≤ seats * 3) × (9 + 3 * seats ≤ length event) × Anew (sharesWord shares i) event₀ event
 
 abbrev μ-loop : tie.MeasureT-loop
-μ-loop event₀ seats shares s₀ event s = seats - s
+μ-loop event₀ seats shares words i₀ event i = words - i
 
 slice-write-event : tie.Need-slice-write-event Inv-loop μ-loop
 slice-write-event c = search needs
@@ -24,17 +23,11 @@ slice-write-event c = search needs
 slice-write-event-2 : tie.Need-slice-write-event-2 Inv-loop μ-loop
 slice-write-event-2 c = simp length-set (omega arith)
 
+mul-words : tie.Need-mul-words Inv-loop μ-loop
+mul-words c = search needs
+
 loop-holds : tie.Need-loop-holds Inv-loop μ-loop
 loop-holds c = (omega arith, simp length-set (omega arith), strided-none _ _ _ _)
-
-mul-at : tie.Need-mul-at Inv-loop μ-loop
-mul-at c = search needs
-
-add-at : tie.Need-add-at Inv-loop μ-loop
-add-at c = search needs
-
-mul-from : tie.Need-mul-from Inv-loop μ-loop
-mul-from c = search needs
 
 mul-event : tie.Need-mul-event Inv-loop μ-loop
 mul-event c = search needs
@@ -42,58 +35,25 @@ mul-event c = search needs
 shared-slice-read-event : tie.Need-shared-slice-read-event Inv-loop μ-loop
 shared-slice-read-event c = search needs
 
+add-event : tie.Need-add-event Inv-loop μ-loop
+add-event c = search needs
+
 mul-event-2 : tie.Need-mul-event-2 Inv-loop μ-loop
 mul-event-2 c = search needs
 
 slice-write-event-3 : tie.Need-slice-write-event-3 Inv-loop μ-loop
 slice-write-event-3 c = search needs
 
-add-event : tie.Need-add-event Inv-loop μ-loop
-add-event c = search needs
-
-mul-event-3 : tie.Need-mul-event-3 Inv-loop μ-loop
-mul-event-3 c = search needs
-
-shared-slice-read-event-2 : tie.Need-shared-slice-read-event-2 Inv-loop μ-loop
-shared-slice-read-event-2 c = search needs
-
-add-event-2 : tie.Need-add-event-2 Inv-loop μ-loop
-add-event-2 c = search needs
-
-mul-event-4 : tie.Need-mul-event-4 Inv-loop μ-loop
-mul-event-4 c = search needs
-
-slice-write-event-4 : tie.Need-slice-write-event-4 Inv-loop μ-loop
-slice-write-event-4 c = simp length-set (omega arith)
-
-add-event-3 : tie.Need-add-event-3 Inv-loop μ-loop
-add-event-3 c = search needs
-
-mul-event-5 : tie.Need-mul-event-5 Inv-loop μ-loop
-mul-event-5 c = search needs
-
-shared-slice-read-event-3 : tie.Need-shared-slice-read-event-3 Inv-loop μ-loop
-shared-slice-read-event-3 c = search needs
-
-add-event-4 : tie.Need-add-event-4 Inv-loop μ-loop
-add-event-4 c = search needs
-
-mul-event-6 : tie.Need-mul-event-6 Inv-loop μ-loop
-mul-event-6 c = search needs
-
-slice-write-event-5 : tie.Need-slice-write-event-5 Inv-loop μ-loop
-slice-write-event-5 c = simp length-set (omega arith)
-
-add-s : tie.Need-add-s Inv-loop μ-loop
-add-s c = search needs
+add-i : tie.Need-add-i Inv-loop μ-loop
+add-i c = search needs
 
 loop-less : tie.Need-loop-less Inv-loop μ-loop
 loop-less c = search needs
 
 loop-again : tie.Need-loop-again Inv-loop μ-loop
 loop-again c =
-    let at = c .before .before .before .before .loop in
-    (omega arith, simp length-set (omega arith), seats-turn _ _ _ (at .event) (omega arith) (at .inv .2))
+    let at = c .before .before .loop in
+    (omega arith, simp length-set (omega arith), words-turn (c .before .before .before .args .shares .now) _ _ (at .event) (omega arith) (at .inv .2))
 
 same-length : tie.Need-same-length Inv-loop μ-loop
 same-length c = c .before .loop .inv .2 .same ∙ simp length-set
@@ -101,7 +61,7 @@ same-length c = c .before .loop .inv .2 .same ∙ simp length-set
 returns : tie.Need-returns Inv-loop μ-loop
 returns c =
     let at = c .before .loop in
-    let q : at .s ≡ c .before .before .args .seats = omega arith in
+    let q : at .i ≡ c .before .before .args .seats * 3 = omega arith in
     event-done _ _ _ _ (omega arith) _ (rw q at (at .inv .2))
 
 pub write-event-spec : {M : Type 1} → statement M
@@ -112,27 +72,14 @@ write-event-spec =
     μ-loop
     slice-write-event
     slice-write-event-2
+    mul-words
     loop-holds
-    mul-at
-    add-at
-    mul-from
     mul-event
     shared-slice-read-event
+    add-event
     mul-event-2
     slice-write-event-3
-    add-event
-    mul-event-3
-    shared-slice-read-event-2
-    add-event-2
-    mul-event-4
-    slice-write-event-4
-    add-event-3
-    mul-event-5
-    shared-slice-read-event-3
-    add-event-4
-    mul-event-6
-    slice-write-event-5
-    add-s
+    add-i
     loop-less
     loop-again
     same-length
