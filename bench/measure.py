@@ -32,12 +32,11 @@ def lines(command, **given):
 
 def row(runs):
     """Of a case's lines, one from each program."""
-    names, sizes, ours, theirs, once, notes = zip(*(line.split("\t") for line in runs))
-    ours = [float(n) for n in ours]
+    names, sizes, ours, theirs, ratios, once, notes = zip(*(line.split("\t") for line in runs))
     theirs = [float(n) for n in theirs if n]
-    return Row(names[0], int(sizes[0] or 0), statistics.mean(ours),
+    return Row(names[0], int(sizes[0] or 0), statistics.mean(float(n) for n in ours),
                statistics.mean(theirs) if theirs else None,
-               [a / b for a, b in zip(ours, theirs)], int(once[0]), notes[0])
+               [float(n) for n in ratios if n], int(once[0]), notes[0])
 
 
 def times(programs, table):
@@ -47,8 +46,7 @@ def times(programs, table):
 
 def passing(programs):
     """The mirror's advance of 1,000,000 epochs over its advance of 52, one for each program."""
-    runs = [lines([program, "passing"])[0].split("\t") for program in programs]
-    return [int(long) / int(ring) for long, ring in runs]
+    return [float(lines([program, "passing"])[0]) for program in programs]
 
 
 def bounds(programs):

@@ -21,10 +21,16 @@ pub struct Bench {
     pool: Held<PoolData>,
 }
 
-/// Nanoseconds of one call: the medians of the mirror and, unless it is left out, of the Rust.
+/// The median of a call's nanoseconds in the mirror, and the Rust's unless it is left out.
 pub struct Times {
     pub ours:   f64,
-    pub theirs: Option<f64>,
+    pub theirs: Option<Theirs>,
+}
+
+pub struct Theirs {
+    pub nanos: f64,
+    /// The mirror's over the Rust's.
+    pub ratio: f64,
 }
 
 impl Bench {
@@ -71,20 +77,22 @@ impl Bench {
     pub fn time(&self, case: &Case) -> Checked<Times> {
         let mut ours = || Ok(self.mirror(case, case.calls())?.nanos);
         let mut theirs = || Ok(self.original(case, case.calls())?.nanos);
-        let each = |nanos: u64| nanos as f64 / case.calls() as f64;
+        let each = |nanos: Vec<u64>| median(nanos) as f64 / case.calls() as f64;
         if case.alone {
-            let [ours] = medians([&mut ours])?;
+            let [ours] = samples([&mut ours])?;
             return Ok(Times { ours: each(ours), theirs: None });
         }
-        let [ours, theirs] = medians([&mut ours, &mut theirs])?;
-        Ok(Times { ours: each(ours), theirs: Some(each(theirs)) })
+        let [ours, theirs] = samples([&mut ours, &mut theirs])?;
+        let ratio = ratio(&ours, &theirs);
+        Ok(Times { ours: each(ours), theirs: Some(Theirs { nanos: each(theirs), ratio }) })
     }
 
-    /// The mirror on two cases of one call each, which take turns as the sides do.
-    pub fn side_by_side(&self, one: &Case, other: &Case) -> Checked<[u64; 2]> {
+    /// The mirror on two cases of one call each, which take turns as the sides do: the first over the second.
+    pub fn side_by_side(&self, one: &Case, other: &Case) -> Checked<f64> {
         let mut first = || Ok(self.mirror(one, 1)?.nanos);
         let mut second = || Ok(self.mirror(other, 1)?.nanos);
-        medians([&mut first, &mut second])
+        let [first, second] = samples([&mut first, &mut second])?;
+        Ok(ratio(&first, &second))
     }
 }
 
@@ -92,7 +100,7 @@ impl Bench {
 pub type Sample<'a> = &'a mut dyn FnMut() -> Checked<u64>;
 
 /// The runs take turns, and take turns in who is first.
-pub fn medians<const N: usize>(runs: [Sample; N]) -> Checked<[u64; N]> {
+pub fn samples<const N: usize>(runs: [Sample; N]) -> Checked<[Vec<u64>; N]> {
     let mut nanos = [const { Vec::new() }; N];
     for sample in 0..SAMPLES {
         for turn in 0..N {
@@ -100,8 +108,17 @@ pub fn medians<const N: usize>(runs: [Sample; N]) -> Checked<[u64; N]> {
             nanos[k].push(runs[k]()?);
         }
     }
-    Ok(nanos.map(|mut run| {
-        run.sort_unstable();
-        run[SAMPLES / 2]
-    }))
+    Ok(nanos)
+}
+
+pub fn median(mut nanos: Vec<u64>) -> u64 {
+    nanos.sort_unstable();
+    nanos[nanos.len() / 2]
+}
+
+/// The median of the turns' own ratios: a machine that runs slower for some turns does so for both.
+fn ratio(one: &[u64], other: &[u64]) -> f64 {
+    let mut ratios: Vec<f64> = one.iter().zip(other).map(|(a, b)| *a as f64 / *b as f64).collect();
+    ratios.sort_unstable_by(f64::total_cmp);
+    ratios[ratios.len() / 2]
 }

@@ -2,7 +2,7 @@
 //! worked out. The memory is a pool's, in the state that the last sample left it.
 use {
     crate::{
-        bench::{medians, Checked},
+        bench::{median, samples, Checked},
         inputs::message,
         pools::{events_mut, fees_mut, keys, publishers, sides_mut, EVENT_LEN, LAST, P},
     },
@@ -19,8 +19,8 @@ fn timed(runs: u32, mut run: impl FnMut()) -> Checked<f64> {
         (0..runs).for_each(|_| run());
         Ok(start.elapsed().as_nanos() as u64)
     };
-    let [nanos] = medians([&mut sample])?;
-    Ok(nanos as f64 / f64::from(runs))
+    let [nanos] = samples([&mut sample])?;
+    Ok(median(nanos) as f64 / f64::from(runs))
 }
 
 fn read(words: &[u64]) {

@@ -9,11 +9,12 @@ use crate::{
 /// With the size P that the program is compiled for, and a row for each seat.
 pub fn seats(pools: &Pools) -> Vec<Case<'_>> {
     let pool = &pools.mixed;
-    let over = |epochs| Call::Advance(advance(epochs, publishers(pool, P)));
+    let all = |epochs| advance(epochs, publishers(pool, P));
     let calls = [
         ("fresh", Call::Fresh(LAST)),
-        ("advance, 1 epoch", over(1)),
-        ("advance, 52 epochs", over(52)),
+        ("advance, 1 epoch", Call::Advance(all(1))),
+        ("advance, 52 epochs", Call::Advance(all(52))),
+        ("forecast, 1 epoch (the Rust: its advance)", Call::Forecast(all(1))),
         ("payment, 256 matching, 52 events", payment(pool, 52, matching(pool, 256))),
         ("add", Call::Add(change(pool))),
         ("fee", fee()),

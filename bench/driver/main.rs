@@ -44,8 +44,8 @@ std::arch::global_asm!(concat!(
 /// What is done with a case: the line that it comes to.
 type Each = fn(&Bench, &Case) -> Checked<String>;
 
-/// Its name, its size, the mirror's and the Rust's nanoseconds for one call, those of the Rust's one call
-/// that was compared, and the note.
+/// Its name, its size, the mirror's and the Rust's nanoseconds for one call, their ratio, the nanoseconds of
+/// the Rust's one call that was compared, and the note.
 fn time(bench: &Bench, case: &Case) -> Checked<String> {
     let once = bench.compare(case, 1)?;
     if case.calls() > 1 {
@@ -53,7 +53,7 @@ fn time(bench: &Bench, case: &Case) -> Checked<String> {
     }
     let times = bench.time(case)?;
     let size = case.size.map_or(String::new(), |size| size.to_string());
-    let theirs = times.theirs.map_or(String::new(), |nanos| nanos.to_string());
+    let theirs = times.theirs.map_or("\t".to_string(), |theirs| format!("{}\t{}", theirs.nanos, theirs.ratio));
     Ok(format!("{}\t{size}\t{}\t{theirs}\t{once}\t{}", case.name, times.ours, case.note))
 }
 
@@ -82,11 +82,10 @@ fn table<'a>(name: &str, pools: &'a Pools) -> Option<Vec<Case<'a>>> {
     }
 }
 
-/// The mirror's nanoseconds for as many epochs as it may pass and for those of one ring, in turns.
+/// The mirror's time for as many epochs as it may pass over that for those of one ring, in turns.
 fn passing(pools: &Pools) -> Checked<()> {
     let [long, ring] = cases::passing(pools);
-    let [long, ring] = Bench::new().side_by_side(&long, &ring)?;
-    println!("{long}\t{ring}");
+    println!("{}", Bench::new().side_by_side(&long, &ring)?);
     Ok(())
 }
 
