@@ -1,4 +1,5 @@
 """Builds what is timed: the mirror's static library, and programs of it and the original Rust."""
+import concurrent.futures
 import os
 import subprocess
 import sys
@@ -24,9 +25,23 @@ def newest():
     return max(times)
 
 
+def below(crate):
+    """The crates that it is made of, as crates.txt has them."""
+    with open(os.path.join(ROOT, "crates.txt")) as listed:
+        return next(needs.split() for name, needs in (line.split(":") for line in listed) if name == crate)
+
+
 def build_mirror():
+    """`rt check` proves crates beside each other, `rt staticlib` would one after the other."""
     if not os.path.exists(LIBRARY) or os.stat(LIBRARY).st_mtime <= newest():
-        subprocess.run(["rt", "staticlib", "pool_mirror"], cwd=ROOT, check=True, stdout=sys.stderr)
+        for words in (["check", *below("pool_mirror")], ["staticlib", "pool_mirror"]):
+            subprocess.run(["rt", *words], cwd=ROOT, check=True, stdout=sys.stderr)
+
+
+def build_all(sizes, lto):
+    """The programs of each P, by P."""
+    with concurrent.futures.ThreadPoolExecutor(os.cpu_count()) as pool:
+        return dict(zip(sizes, pool.map(lambda p: build(p, lto), sizes)))
 
 
 def build(p, lto):
