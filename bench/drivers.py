@@ -11,9 +11,9 @@ import prepare
 
 LIBRARY = os.path.join(ROOT, "target/staticlib/libpool_mirror.a")
 OUT = os.path.join(ROOT, "target/bench")
-PROGRAM = ("bench", os.path.join(ROOT, "bench/driver"))
+NAMES = ["bench_0", "bench_16", "bench_32", "bench_48"]     # by so many bytes a program's code is moved
+PROGRAM = (NAMES, os.path.join(ROOT, "bench/driver"))
 SETTINGS = (52, 604800, 1)          # E, EPOCH_DURATION, UNLOCKING_DURATION
-SHIFTS = (0, 16, 32, 48)            # by so many bytes the code is moved, in one program each
 LTO = {"CARGO_PROFILE_RELEASE_LTO": "fat", "CARGO_PROFILE_RELEASE_CODEGEN_UNITS": "1"}
 
 
@@ -38,25 +38,24 @@ def build_mirror():
             subprocess.run(["rt", *words], cwd=ROOT, check=True, stdout=sys.stderr)
 
 
-def build_all(sizes, lto):
-    """The programs of each P, by P."""
-    with concurrent.futures.ThreadPoolExecutor(os.cpu_count()) as pool:
-        return dict(zip(sizes, pool.map(lambda p: build(p, lto), sizes)))
-
-
-def build(p, lto):
-    """Programs for P seats, a constant of the Rust, which the oracle's code lays out. One for each shift."""
+def compile_rust(p, lto, package):
+    """The programs for P seats, a constant of the Rust, which the oracle's code lays out; or a package that they need."""
     folder = os.path.join(OUT, f"p{p}")
     source = os.path.join(folder, "source")
     prepare.prepare(binary.sources(), source, p, *SETTINGS, PROGRAM)
-    programs = []
-    for shift in SHIFTS:
-        cargo = os.path.join(folder, f"{'lto' if lto else 'release'}-{shift}")
-        given = {"MIRROR_FOLDER": os.path.dirname(LIBRARY), "BENCH_SHIFT": str(shift)}
-        given.update(LTO if lto else {})
-        subprocess.run(
-            ["cargo", "build", "--release", "--offline", "--quiet", "--package", "driver",
-             "--manifest-path", os.path.join(source, "Cargo.toml"), "--target-dir", cargo],
-            check=True, stdout=sys.stderr, env={**os.environ, **given})
-        programs.append(os.path.join(cargo, "release/bench"))
-    return programs
+    cargo = os.path.join(folder, "lto" if lto else "release")
+    given = {"MIRROR_FOLDER": os.path.dirname(LIBRARY), **(LTO if lto else {})}
+    subprocess.run(
+        ["cargo", "build", "--release", "--offline", "--quiet", "--package", package,
+         "--manifest-path", os.path.join(source, "Cargo.toml"), "--target-dir", cargo],
+        check=True, stdout=sys.stderr, env={**os.environ, **given})
+    return [os.path.join(cargo, "release", name) for name in NAMES]
+
+
+def build(sizes, lto):
+    """The programs of each P, by P. The original is compiled while the mirror is proved."""
+    with concurrent.futures.ThreadPoolExecutor(os.cpu_count()) as workers:
+        mirror = workers.submit(build_mirror)
+        list(workers.map(lambda p: compile_rust(p, lto, "integrity_pool"), sizes))
+        mirror.result()
+        return dict(zip(sizes, workers.map(lambda p: compile_rust(p, lto, "driver"), sizes)))

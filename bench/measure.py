@@ -69,7 +69,7 @@ def instructions(program, table):
     with tempfile.TemporaryDirectory() as folder:
         dump = os.path.join(folder, "dump")
         names = lines(["valgrind", "--tool=callgrind", "--quiet", "--toggle-collect=pool_mirror_*",
-                       "--dump-after=bench::count", f"--callgrind-out-file={dump}",
+                       f"--dump-after={os.path.basename(program)}::count", f"--callgrind-out-file={dump}",
                        program, "count", table], env={**os.environ, **TUNABLES})
         counts = {name: total(f"{dump}.{k}") for k, name in enumerate(names, 1)}
     if 0 in counts.values():

@@ -150,12 +150,13 @@ class Workspace:
                       "anchor_lang anchor_spl borsh bytemuck publisher_caps staking",
                       '\n[lib]\npath = "src/root.rs"\n\n[lints.rust]\n'
                       'unused_imports = "allow"\nunconditional_panic = "allow"\n')
-        name, folder = self.program
+        names, folder = self.program
         at = os.path.relpath(folder, os.path.join(self.out, "driver"))
+        programs = "".join(f'\n[[bin]]\nname = "{name}"\npath = "{at}/main.rs"\n' for name in names)
         build = f'build = "{at}/build.rs"\n' if os.path.exists(f"{folder}/build.rs") else ""
         self.manifest("driver", "2021",
                       "anchor_lang anchor_spl integrity_pool publisher_caps staking",
-                      f'{build}\n[[bin]]\nname = "{name}"\npath = "{at}/main.rs"\n')
+                      build + programs)
         self.put("Cargo.toml", '[workspace]\nresolver = "2"\nmembers = ["driver", "integrity_pool",'
                  ' "publisher_caps", "staking"]\n\n[profile.release]\noverflow-checks = true\n'
                  'panic = "unwind"\nopt-level = 3\n')
@@ -191,8 +192,8 @@ class Workspace:
         self.put("UNCHANGED.txt", "\n".join(report) + "\n")
 
 
-def prepare(sources, out, p, e, seconds, unlocking, program=("oracle", f"{HERE}/driver")):
-    """`program` is the name of the program over them and its folder, with main.rs and perhaps build.rs."""
+def prepare(sources, out, p, e, seconds, unlocking, program=(["oracle"], f"{HERE}/driver")):
+    """`program` is the program over them: the names that it is compiled under, and its folder, with main.rs and perhaps build.rs."""
     w = Workspace(sources, out, p, e, seconds, unlocking, program)
     w.write_pool()
     w.write_parts()

@@ -1,6 +1,6 @@
 //! Times the mirror's static library beside the original Rust, on the same inputs and in the same
-//! memory. A case on which the two differ ends the run with status 1. BENCH_SHIFT, when it is compiled,
-//! says how far the code is moved.
+//! memory. A case on which the two differ ends the run with status 1. It is compiled under four names, which
+//! say how far the code is moved.
 #[path = "../../oracle/driver/accounts.rs"]
 mod accounts;
 mod bench;
@@ -34,12 +34,15 @@ use {
 };
 
 // Bytes that are never run: the code behind them, of both sides, is moved by so many.
-std::arch::global_asm!(concat!(
-    ".section .text.bench_shift, \"axR\", @progbits\n",
-    ".skip ",
-    env!("BENCH_SHIFT"),
-    "\n.text"
-));
+std::arch::global_asm!(
+    ".section .text.bench_shift, \"axR\", @progbits",
+    ".set bench_0, 0",
+    ".set bench_16, 16",
+    ".set bench_32, 32",
+    ".set bench_48, 48",
+    concat!(".skip ", env!("CARGO_BIN_NAME")),
+    ".text"
+);
 
 /// What is done with a case: the line that it comes to.
 type Each = fn(&Bench, &Case) -> Checked<String>;
