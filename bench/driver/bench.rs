@@ -116,7 +116,7 @@ pub fn median(mut nanos: Vec<u64>) -> u64 {
     nanos[nanos.len() / 2]
 }
 
-/// The median of the turns' own ratios: a machine that runs slower for some turns does so for both.
+/// The median of the turns' own ratios: a machine that runs slower for some turns slows both sides, if not by as much.
 fn ratio(one: &[u64], other: &[u64]) -> f64 {
     let mut ratios: Vec<f64> = one.iter().zip(other).map(|(a, b)| *a as f64 / *b as f64).collect();
     ratios.sort_unstable_by(f64::total_cmp);
