@@ -2,3 +2,4 @@ pub mod StakeLaws
 pub mod RowLaws
 pub mod PlanLaws
 pub mod EventsLaws
+pub mod Fixed

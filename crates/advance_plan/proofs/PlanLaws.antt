@@ -32,7 +32,7 @@ use Rattle.advance_plan.specs.declared.stake.EligibleSums.the-variants a
 use Rattle.advance_plan.specs.Advance.{seatCap, seatRolls, eligibleIn, ratioIn, eligibleSum, forecastSum, passedOf, adjustmentOf, answerWith, advanceOf, forecastOf}
 use Rattle.advance_plan.specs.Stake.{Table, Tabled, Summed, SumsEligible}
 use Rattle.advance_plan.specs.Rows.{Matched}
-use Rattle.advance_plan.specs.Plan.{Ready, ReadyAfter, dueOf, dueIs, sumOf, adjustFit, adjustSums, Worked, plannedIs, PlannedAs}
+use Rattle.advance_plan.specs.Plan.{Ready, ReadyAfter, dueOf, dueIs, sumOf, adjustFit, adjustSums, Worked, plannedIs, PlannedAs, CappedAs}
 
 -- ---- whether an advance is due
 
@@ -303,6 +303,16 @@ module _ (P E : ℕ) (img m : List ℕ) (g : Given) (passed : ℕ) (z : ReadyAft
         go eligible-sums.DoesNotFit q =
             let e : plannedIs p ≡ refused doesNotFit = ep ∙ ap (λ (s : EligibleSums). adjustSums everyRolled s n passed claimable g) q in
             record { answer = e ∙ plan-not q .answer; worked = λ a k. refused-works _ a (sym e ∙ k) }
+
+-- a refused plan says nothing of the caps, and else they are those that the rows were matched with
+pub refused-capped : {P E : ℕ} {img m caps : List ℕ} (k seats rows : ℕ) (marks : BoolArray) (r : AdvancePlan)
+    → r ≡ record { planned = planned.Refused k; seats = seats; rows = rows; marks = marks } → CappedAs P E img m caps r
+refused-capped k seats rows marks r e = record { cap = λ a h. refused-works k a (sym (ap (λ (x : AdvancePlan). plannedIs (x .planned)) e) ∙ h) }
+
+pub matched-capped : {P E : ℕ} {img m : List ℕ} {seats : ℕ} {caps words : List ℕ} → Matched (read P E img) m seats caps words
+    → (p : Planned) (rows : ℕ) (marks : BoolArray) (r : AdvancePlan) → r ≡ record { planned = p; seats = seats; rows = rows; marks = marks }
+    → CappedAs P E img m caps r
+matched-capped mt p rows marks r e = record { cap = λ a h s l. mt .cap s (omega (arith, ap (λ (x : AdvancePlan). x .seats) e)) }
 
 -- ---- the sums' way to an answer
 

@@ -4,6 +4,7 @@ use mathlib.Core.Bool.{Bool, true, false, not}
 use mathlib.Core.List.{List}
 use Prim.Native.Nat.{ℕ, _+_, _-_, _*_, _/_, _≤_, _<_}
 use lib.Dec.{leb, eqb}
+use lib.ListN.{getD}
 use Rattle.types.specs.Base.{word, half, if_then_else_, Outcome, refused, accepted, allBelow}
 use Rattle.types.specs.Refusals.{unverifiedPublisherCaps, poolDataAlreadyUpToDate, outdatedPublisherCaps, doesNotFit}
 use Rattle.types.specs.BoolArray.{marked}
@@ -97,3 +98,7 @@ pub record PlannedAs (P E : ℕ) (img m : List ℕ) (g : Given) (everyRolled : B
       ≡ adjustmentOf P (read P E img) m g (sumOf everyRolled (read P E img) (seatCap (read P E img) m) (seatsOf P (read P E img)) (passedOf (read P E img) g))
   pub worked : (a : Adjustment) → plannedIs (r .planned) ≡ accepted a
       → Worked P E img m (r .seats) (r .rows) (r .marks .words) t (g .«current_epoch») (a .setAside)
+
+-- where it is accepted, the caps of its seats' keys are in their list
+pub record CappedAs (P E : ℕ) (img m caps : List ℕ) (r : AdvancePlan) : Type 0 where
+  pub cap : (a : Adjustment) → plannedIs (r .planned) ≡ accepted a → (s : ℕ) → s < r .seats → getD caps s 0 ≡ seatCap (read P E img) m s

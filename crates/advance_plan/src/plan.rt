@@ -8,7 +8,7 @@ ghost use Rattle.event.specs.Adjust.{adjustedIs};
 ghost use Rattle.image.specs.Layout.{numEvents, claimableRewards, head, read};
 ghost use Rattle.image.specs.Seats.{Sized};
 ghost use Rattle.advance_plan.specs.Stake.{tableOf, Roomy};
-ghost use Rattle.advance_plan.specs.Plan.{Ready, ReadyAfter, adjustFit, adjustSums, plannedIs, PlannedAs};
+ghost use Rattle.advance_plan.specs.Plan.{Ready, ReadyAfter, adjustFit, adjustSums, plannedIs, PlannedAs, CappedAs};
 use crate::Given;
 use crate::due;
 use crate::due::Due;
@@ -131,7 +131,7 @@ fn plan_due(
     later_shares: &mut [u64],
 ) -> AdvancePlan
     requires { ⌜ ReadyAfter p e (now pool) (now m) given passed × (p ≤ length (now caps)) × Roomy p (tableOf (now «first_shares») (now «later_shares»)) ⌝ }
-    ensures { λ r. ⌜ PlannedAs p e (now (pool .entry)) (now (m .entry)) given «every_rolled» (tableOf (now («first_shares» .exit)) (now («later_shares» .exit))) r ⌝ }
+    ensures { λ r. ⌜ PlannedAs p e (now (pool .entry)) (now (m .entry)) given «every_rolled» (tableOf (now («first_shares» .exit)) (now («later_shares» .exit))) r × CappedAs p e (now (pool .entry)) (now (m .entry)) (now (caps .exit)) r ⌝ }
 {
     let rows = publisher_caps::num_publishers(m);
     let seats = image::seats::seats(pool, p, e);
@@ -156,7 +156,7 @@ pub fn plan(
     later_shares: &mut [u64],
 ) -> AdvancePlan
     requires { ⌜ Ready p e (now pool) (now m) (given .«epoch_duration») × (p ≤ length (now caps)) × Roomy p (tableOf (now «first_shares») (now «later_shares»)) ⌝ }
-    ensures { λ r. ⌜ PlannedAs p e (now (pool .entry)) (now (m .entry)) given «every_rolled» (tableOf (now («first_shares» .exit)) (now («later_shares» .exit))) r ⌝ }
+    ensures { λ r. ⌜ PlannedAs p e (now (pool .entry)) (now (m .entry)) given «every_rolled» (tableOf (now («first_shares» .exit)) (now («later_shares» .exit))) r × CappedAs p e (now (pool .entry)) (now (m .entry)) (now (caps .exit)) r ⌝ }
 {
     let time = publisher_caps::publish_time(m);
     let epochs = due::epochs_due(pool[0], time, given);

@@ -3,3 +3,4 @@ pub mod NewestLaws
 pub mod RingWalk
 pub mod SpanLaws
 pub mod AmountLaws
+pub mod Fixed

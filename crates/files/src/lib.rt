@@ -2,9 +2,11 @@
 mod words;
 
 ghost use mathlib.Core.Path.{_≡_};
+ghost use mathlib.Core.Bool.{true};
 ghost use Prim.Native.Nat.{_≤_, _*_};
 ghost use lib.ListN.{length};
 ghost use Rattle.files.specs.Name.{NameMade};
+ghost use Rattle.files.specs.Saved.{isSaveAnswer};
 use journal::fields;
 
 // How many words were loaded, and what was wrong, or 0.
@@ -145,7 +147,9 @@ fn save_all(fd: i32, buffer: &mut [u8], pool: &[u64]) -> bool
 }
 
 // Writes the words to the file `second`, which then becomes the file `path`. Where a step fails, `second` is removed and `path` stays.
-fn save_as(path: &[u8], second: &[u8], pool: &[u64]) -> u8 {
+fn save_as(path: &[u8], second: &[u8], pool: &[u64]) -> u8
+    ensures { λ r. ⌜ isSaveAnswer r ≡ true ⌝ }
+{
     let fd = os::open_overwrite(second);
     if fd < 0 {
         return fields::CANNOT_WRITE;
@@ -184,7 +188,9 @@ fn second_name(path: &[u8], out: &mut [u8]) -> usize
 }
 
 // Saves by way of a second name, for which `space` is lent.
-fn save_by(path: &[u8], space: &mut [u8], pool: &[u64]) -> u8 {
+fn save_by(path: &[u8], space: &mut [u8], pool: &[u64]) -> u8
+    ensures { λ r. ⌜ isSaveAnswer r ≡ true ⌝ }
+{
     let n = second_name(path, &mut space[..]);
     if n == 0 {
         return fields::CANNOT_WRITE;
@@ -193,7 +199,9 @@ fn save_by(path: &[u8], space: &mut [u8], pool: &[u64]) -> u8 {
 }
 
 // The file becomes the words: 0, or what was wrong, when it stays as it was.
-pub fn save(path: &[u8], pool: &[u64]) -> u8 {
+pub fn save(path: &[u8], pool: &[u64]) -> u8
+    ensures { λ r. ⌜ isSaveAnswer r ≡ true ⌝ }
+{
     let mut space = io::buffer();
     save_by(path, &mut space, pool)
 }

@@ -10,3 +10,4 @@ pub mod WriteLaws
 pub mod ChangeWrites
 pub mod PartLaws
 pub mod ChangeLaws
+pub mod Fixed

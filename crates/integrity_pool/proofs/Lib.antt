@@ -12,3 +12,4 @@ pub mod SlashLaws
 pub mod StakeAccountLaws
 pub mod ChangeTells
 pub mod ChangeExamples
+pub mod Fixed

@@ -1,4 +1,6 @@
 // Standard output through a buffer that the caller lends.
+ghost use mathlib.Core.Path.{_≡_};
+ghost use mathlib.Core.Bool.{true};
 ghost use Prim.Native.Nat.{_≤_, _<_};
 ghost use lib.ListN.{length};
 ghost use Rattle.journal.specs.Held.{Writable};
@@ -11,7 +13,7 @@ pub struct Pen {
 
 impl Pen {
     pub fn new() -> Self
-        ensures { λ r. ⌜ r .at ≤ 0 ⌝ }
+        ensures { λ r. ⌜ (r .at ≡ 0) × (r .ok ≡ true) ⌝ }
     {
         Self { at: 0, ok: true }
     }
@@ -20,7 +22,7 @@ impl Pen {
 // Writes out what the buffer holds, unless a write failed before.
 pub fn flush(out: &[u8], pen: Pen) -> Pen
     requires { ⌜ pen .at ≤ length (now out) ⌝ }
-    ensures { λ r. ⌜ r .at ≤ 0 ⌝ }
+    ensures { λ r. ⌜ r .at ≡ 0 ⌝ }
 {
     if !pen.ok {
         return Pen { at: 0, ok: false };

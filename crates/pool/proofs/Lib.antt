@@ -2,3 +2,4 @@ pub mod AdvanceLaws
 pub mod RewardLaws
 pub mod PaidLaws
 pub mod ChangeLaws
+pub mod Fixed

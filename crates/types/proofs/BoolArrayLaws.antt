@@ -77,7 +77,7 @@ as-bit (suc zero) h = refl
 as-bit (suc (suc b)) h = absurd (omega arith)
 
 -- a row's mark as a bit
-mark-bit : (words : List ℕ) (k b : ℕ) → k < 16 → b < 64 → toNat (marked words (k * 64 + b)) ≡ bitAt (getD words k 0) b
+pub mark-bit : (words : List ℕ) (k b : ℕ) → k < 16 → b < 64 → toNat (marked words (k * 64 + b)) ≡ bitAt (getD words k 0) b
 unfolding marked
 mark-bit words k b hk hb =
     rw (lt-ltb (k * 64 + b) 1_024 (omega arith), quotient (k * 64 + b) (omega arith), remainder (k * 64 + b) (omega arith))

@@ -3,3 +3,4 @@ pub mod MulDivLaws
 pub mod WideLaws
 pub mod BoolArrayLaws
 pub mod OutcomeLaws
+pub mod Fixed

@@ -13,7 +13,7 @@ const HALF: u64 = 0x1_0000_0000;
 
 // The whole product of two words, by halves of 32 bits.
 pub fn product(a: u64, b: u64) -> Wide
-    ensures { λ r. ⌜ r .hi * 2 ^ 64 + r .lo ≡ a * b ⌝ }
+    ensures { λ r. ⌜ wideOf r ≡ a * b ⌝ }
 {
     let a1 = a / HALF;
     let a0 = a % HALF;

@@ -1,6 +1,6 @@
 -- `advance_plan::plan::plan` meets its contract. Assumes nothing.
 use native.Mathlib.Omega.{arith}
-use Rattle.advance_plan.proofs.PlanLaws.{due-refused, due-ready}
+use Rattle.advance_plan.proofs.PlanLaws.{due-refused, due-ready, refused-capped}
 use borrow.Author.Needs.{needs}
 use Rattle.advance_plan.proofs.plan.plan.Statement.{statement}
 use Rattle.advance_plan.proofs.plan.plan.Tie as tie
@@ -30,7 +30,7 @@ plan-due-requires : tie.Need-plan-due-requires
 plan-due-requires c κs = (due-ready _ _ _ _ _ _ _ (c .before .before .before .before .before .before .before .before .publish-time .ensures) (c .before .before .before .before .before .before .epochs-due .ensures) _ (c .before .before .before .before .before .before .before .before .before .before .before .before .before .before .pre .0) (c .before .before .before .before .epochs2 .given .1), c .before .before .before .before .before .before .before .before .before .before .before .before .before .before .pre .1, c .before .before .before .before .before .before .before .before .before .before .before .before .before .before .pre .2)
 
 returns : tie.Need-returns
-returns c = due-refused _ _ _ _ _ _ _ (c .before .before .before .before .before .before .before .publish-time .ensures) (c .before .before .before .before .before .epochs-due .ensures) _ (c .before .before .before .epochs .given .1) _ _ _ _ _ _ (c .with-rows .ensures)
+returns c = (due-refused _ _ _ _ _ _ _ (c .before .before .before .before .before .before .before .publish-time .ensures) (c .before .before .before .before .before .epochs-due .ensures) _ (c .before .before .before .epochs .given .1) _ _ _ _ _ _ (c .with-rows .ensures), refused-capped _ _ _ _ _ (c .with-rows .ensures))
 
 same-length : tie.Need-same-length
 same-length c = search needs

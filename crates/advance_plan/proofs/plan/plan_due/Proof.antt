@@ -1,7 +1,7 @@
 -- `advance_plan::plan::plan_due` meets its contract. Assumes nothing.
 use mathlib.Core.Path.{refl}
 use native.Mathlib.Omega.{arith}
-use Rattle.advance_plan.proofs.PlanLaws.{enough-seats, some-passed, plan-sums}
+use Rattle.advance_plan.proofs.PlanLaws.{enough-seats, some-passed, plan-sums, matched-capped}
 use borrow.Author.Needs.{needs}
 use Rattle.advance_plan.proofs.plan.plan_due.Statement.{statement}
 use Rattle.advance_plan.proofs.plan.plan_due.Tie as tie
@@ -34,7 +34,7 @@ same-length-3 : tie.Need-same-length-3
 same-length-3 c = search needs
 
 returns : tie.Need-returns
-returns c = plan-sums _ _ _ _ _ _ (c .before .before .before .before .before .before .before .before .before .before .before .before .before .before .before .before .before .before .before .before .before .pre .0) _ _ _ (c .before .before .before .before .before .before .before .before .before .before .before .before .before .before .seats .ensures) (c .before .before .before .before .before .before .before .before .before .before .before .before .before .before .before .num-publishers .ensures) _ _ (c .before .before .before .before .before .before .before .before .before .before .before .before .match-rows .ensures) _ _ (c .before .before .before .before .before .before .sum-eligible .ensures) _ _ refl refl _ (c .before .plan-sums .ensures) (omega (arith, c .before .before .before .before .before .before .before .before .before .before .before .before .before .before .before .before .before .before .before .before .before .good)) _ (c .with-rows .ensures)
+returns c = (plan-sums _ _ _ _ _ _ (c .before .before .before .before .before .before .before .before .before .before .before .before .before .before .before .before .before .before .before .before .before .pre .0) _ _ _ (c .before .before .before .before .before .before .before .before .before .before .before .before .before .before .seats .ensures) (c .before .before .before .before .before .before .before .before .before .before .before .before .before .before .before .num-publishers .ensures) _ _ (c .before .before .before .before .before .before .before .before .before .before .before .before .match-rows .ensures) _ _ (c .before .before .before .before .before .before .sum-eligible .ensures) _ _ refl refl _ (c .before .plan-sums .ensures) (omega (arith, c .before .before .before .before .before .before .before .before .before .before .before .before .before .before .before .before .before .before .before .before .before .good)) _ (c .with-rows .ensures), matched-capped (c .before .before .before .before .before .before .before .before .before .before .before .before .match-rows .ensures) _ _ _ _ (c .with-rows .ensures))
 
 pub plan-due-spec : {M : Type 1} → statement M
 plan-due-spec =

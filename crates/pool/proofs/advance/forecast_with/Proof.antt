@@ -23,7 +23,7 @@ same-length-3 : tie.Need-same-length-3
 same-length-3 c = search needs
 
 returns : tie.Need-returns
-returns c = forecast-refused _ _ _ _ _ _ _ (c .before .before .before .before .before .before .before .before .before .plan .ensures) _ (c .before .planned .given .1)
+returns c = forecast-refused _ _ _ _ _ _ _ (c .before .before .before .before .before .before .before .before .before .plan .ensures .0) _ (c .before .planned .given .1)
 
 same-length-4 : tie.Need-same-length-4
 same-length-4 c = search needs
@@ -35,7 +35,7 @@ same-length-6 : tie.Need-same-length-6
 same-length-6 c = search needs
 
 returns-2 : tie.Need-returns-2
-returns-2 c = forecast-done _ _ _ _ _ _ _ (c .before .before .before .before .before .before .before .before .before .plan .ensures) _ _ (c .before .planned2 .given .1)
+returns-2 c = forecast-done _ _ _ _ _ _ _ (c .before .before .before .before .before .before .before .before .before .plan .ensures .0) _ _ (c .before .planned2 .given .1)
 
 pub forecast-with-spec : {M : Type 1} → statement M
 forecast-with-spec =

@@ -2,6 +2,7 @@
 use Prim.Native.Nat.{ℕ, _*_, _^_, _<_}
 use native.Mathlib.Omega.{arith}
 use borrow.Author.Needs.{needs}
+use Rattle.types.specs.Wide.{wideOf}
 use Rattle.types.proofs.MulDivLaws.{fits-at, past-at, upper-below, upper-above, one-word}
 use Rattle.types.proofs.mul_div.mul_div_wide.Statement.{statement}
 use Rattle.types.proofs.mul_div.mul_div_wide.Tie as tie
@@ -13,6 +14,7 @@ product-requires : tie.Need-product-requires
 product-requires c κs = search needs
 
 returns : tie.Need-returns
+unfolding wideOf
 returns c =
     let a = c .before .before .args in
     let p = c .before .product in
@@ -20,6 +22,7 @@ returns c =
 
 -- past the first test the product is below d * 2 ^ 64
 below : (c : tie.Else1) → c .before .before .args .a * c .before .before .args .b < c .before .before .args .d * 2 ^ 64
+unfolding wideOf
 below c =
     let a = c .before .before .args in
     let p = c .before .product in
@@ -32,6 +35,7 @@ rem-t10 : tie.Need-rem-t10
 rem-t10 c = positive (c .before .if1 .left)
 
 returns-2 : tie.Need-returns-2
+unfolding wideOf
 returns-2 c =
     let a = c .before .before .before .args in
     let p = c .before .before .product in
@@ -43,6 +47,7 @@ divide-requires : tie.Need-divide-requires
 divide-requires c κs = search needs
 
 returns-3 : tie.Need-returns-3
+unfolding wideOf
 returns-3 c =
     let a = c .before .before .before .before .args in
     let p = c .before .before .before .product in

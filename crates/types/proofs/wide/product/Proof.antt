@@ -1,6 +1,7 @@
 -- `types::wide::product` meets its contract. Assumes nothing.
 use Prim.Native.Nat.{ℕ, _/_, _%_, _^_, _<_, _*_, _-_, _≤_}
 use native.Mathlib.Omega.{arith}
+use Rattle.types.specs.Wide.{wideOf}
 use Rattle.types.proofs.MulDivLaws.{half-product, by-halves}
 use Rattle.types.proofs.wide.product.Statement.{statement}
 use Rattle.types.proofs.wide.product.Tie as tie
@@ -54,6 +55,7 @@ add-t18 : tie.Need-add-t18
 add-t18 c = omega arith
 
 returns : tie.Need-returns
+unfolding wideOf
 returns c = omega (arith, by-halves (c .args .a) (c .args .b))
 
 pub product-spec : {M : Type 1} → statement M
