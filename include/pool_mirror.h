@@ -47,7 +47,8 @@ extern "C" {
  *   3 + 12 p + e (9 + 3 p) + s       number of slash events
  *   3 + 13 p + e (9 + 3 p) + s       fee
  *
- * The data of the on-chain account without its first 8 bytes, taken as little-endian words, is the image at 1,024 and 52: 1,396,408 bytes. */
+ * In the data of the on-chain account the image at 1,024 and 52 is the 1,396,408 bytes behind the first 8, as little-endian words. The account has
+ * 2,097,152 bytes (`PoolData::LEN`); those behind the image are no part of it. */
 #define POOL_MIRROR_IMAGE_LEN(p, e) ((size_t)3 + (size_t)14 * (p) + (size_t)(e) * ((size_t)9 + (size_t)3 * (p)))
 #define POOL_MIRROR_MAX_P 1024
 #define POOL_MIRROR_MAX_E 52
@@ -139,8 +140,10 @@ uint64_t pool_mirror_forecast(const uint64_t *pool, size_t pool_len, size_t p, s
  * `account` is the account that is paid. `publisher_account` is the one that gets the publisher's part: the seat's stake account, or absent
  * (has_publisher_account 0: its four words make no difference) where the seat has none. A custody_flag of 0 says that this account has no custody
  * account. `positions` are all positions of the account; those with other publishers are passed over. unlocking_duration is in epochs (1 on the chain).
- * answer: delegator's part, publisher's part, by how much custody falls (both parts with a publisher account, else the delegator's alone), and how many
- * events were read. Claimable falls by both parts.
+ * answer: delegator's part, publisher's part, by how much custody falls (both parts with a publisher account, else the delegator's alone), and the
+ * read count: for each position with this publisher the events from the newest back to the first one older than the record's last epoch, that one
+ * included, at most the smaller of n and e. It counts them for each position, though the ring is read once for all. 0 says that no position is
+ * with this publisher, or that n is 0. Claimable falls by both parts.
  * Refusals: 1, 4, 10, 11, 12, 13 for an end of unlocking, a slot's amount, a rate, a reward or both parts together past 64 bits or a publisher's
  * part above its reward, 16, 17, 18. */
 uint64_t pool_mirror_payment(uint64_t *pool, size_t pool_len, size_t p, size_t e, uint64_t current_epoch, const uint64_t publisher[4],
