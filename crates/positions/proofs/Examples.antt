@@ -5,11 +5,11 @@ use mathlib.Core.List.{[], _∷_, _++_}
 use Prim.Native.Nat.{_-_, _*_, _^_}
 use lib.ListN.{replicate}
 use Rattle.types.specs.Base.{refused, accepted, allBelow, anyBelow}
-use Rattle.types.specs.Refusals.{doesNotFit}
+use Rattle.types.specs.Refusals.{invalidPositions, doesNotFit}
 use Rattle.positions.specs.declared.Key.{Key}
 use Rattle.positions.specs.declared.position.PositionState.the-variants.{LOCKING, LOCKED, PREUNLOCKING, UNLOCKING}
 use Rattle.positions.specs.Key.{sameKey}
-use Rattle.positions.specs.State.{stateBy, adds}
+use Rattle.positions.specs.State.{stateBy, stateCall, adds}
 use Rattle.positions.specs.Positions.{positionHolds, positionsHold, inPublisher, hasPublisher}
 
 -- ---- states at the edges; document 01's own example stands with the others that are marked P, in integrity_pool
@@ -32,6 +32,19 @@ past-end = refl
 pub past-end-locking : stateBy 5 1 (2 ^ 64 - 1) 4 1 ≡ accepted LOCKING
 unfolding stateBy
 past-end-locking = refl
+
+-- of a list: a voting position has a state too, an empty one has none, and nor have two
+pub voting-locked : stateCall (1 ∷ 0 ∷ 5 ∷ replicate 6 0) 5 1 ≡ accepted LOCKED
+unfolding stateCall positionHolds stateBy
+voting-locked = refl
+
+pub empty-has-none : stateCall (replicate 9 0) 5 1 ≡ refused invalidPositions
+unfolding stateCall positionHolds stateBy
+empty-has-none = refl
+
+pub two-have-none : stateCall (replicate 18 1) 5 1 ≡ refused invalidPositions
+unfolding stateCall positionHolds stateBy
+two-have-none = refl
 
 -- item 8: 'LOCKED and PREUNLOCKING add'
 pub preunlocking-adds : adds PREUNLOCKING ≡ true

@@ -4,16 +4,16 @@ use Rattle.types.specs.Base.{Outcome, refused, accepted}
 use Rattle.types.proofs.Fixed.{by-return}
 use Rattle.positions.specs.declared.position.PositionState.{PositionState}
 use Rattle.positions.specs.declared.position.StateAnswer.{StateAnswer}
-use Rattle.positions.specs.declared.position.StateAnswer.the-variants.{State, DoesNotFit}
+use Rattle.positions.specs.declared.position.StateAnswer.the-variants.{State, Refused}
 use Rattle.positions.specs.State.{stateIs}
 
 abbrev answer : Outcome PositionState → StateAnswer
 answer (accepted s) = State s
-answer (refused k) = DoesNotFit
+answer (refused k) = Refused k
 
 again : (a : StateAnswer) → answer (stateIs a) ≡ a
 again (State s) = refl
-again DoesNotFit = refl
+again (Refused k) = refl
 
 -- two answers with the same state or refusal are the same
 pub state-is-fixes : (a b : StateAnswer) → stateIs a ≡ stateIs b → a ≡ b

@@ -2,15 +2,19 @@
 use mathlib.Core.Path.{_≡_, refl, subst}
 use mathlib.Core.Logic.{_⊎_, inl, inr}
 use mathlib.Core.Bool.{Bool, true, false, not}
+use mathlib.Core.List.{List}
 use Prim.Native.Nat.{ℕ, _+_, _<_, _≤_}
 use native.Mathlib.Omega.{arith}
 use lib.Dec.{ltb, leb, eqb}
+use lib.ListN.{length, getD}
 use borrow.Author.Tests.{lt-ltb, le-ltb, lt-leb, le-leb, eq-eqb, ne-eqb, ltb-true, ltb-false, leb-true, leb-false, eqb-true, eqb-false}
 use Rattle.types.specs.Base.{word, if_then_else_, Outcome, refused, accepted}
-use Rattle.types.specs.Refusals.{doesNotFit}
+use Rattle.types.specs.Refusals.{invalidPositions, doesNotFit}
+use Rattle.positions.specs.declared.position.Position.{Position}
 use Rattle.positions.specs.declared.position.PositionState.{PositionState}
 use Rattle.positions.specs.declared.position.PositionState.the-variants.{UNLOCKED, LOCKING, LOCKED, PREUNLOCKING, UNLOCKING}
-use Rattle.positions.specs.State.{stateBy, adds}
+use Rattle.positions.specs.Positions.{positionFrom, positionHolds}
+use Rattle.positions.specs.State.{stateBy, stateOf, stateCall, adds}
 
 -- ---- one law for each answer
 
@@ -44,6 +48,26 @@ module _ (activation flag start epoch unlocking : ℕ) where
   unlocked h g f u =
       let e : start ≤ epoch = omega arith in
       simp (le-ltb _ _ h, eq-eqb _ _ g, lt-leb _ _ f, le-ltb _ _ e, le-ltb _ _ u)
+
+-- ---- of a list that is one position
+
+module _ (words : List ℕ) (epoch unlocking : ℕ) where
+  pub other-length : (length words ≡ 9 → ⊥) → refused invalidPositions ≡ stateCall words epoch unlocking
+  unfolding stateCall
+  other-length n = rw (ne-eqb (length words) 9 n)
+
+  pub not-held : length words ≡ 9 → positionHolds words 0 ≡ false → refused invalidPositions ≡ stateCall words epoch unlocking
+  unfolding stateCall
+  not-held l h = rw (eq-eqb (length words) 9 l, h)
+
+  pub empty-refused : length words ≡ 9 → positionHolds words 0 ≡ true → getD words 0 0 ≡ 0 → refused invalidPositions ≡ stateCall words epoch unlocking
+  unfolding stateCall
+  empty-refused l h e = rw (eq-eqb (length words) 9 l, h, eq-eqb (getD words 0 0) 0 e)
+
+  pub state-read : (p : Position) → length words ≡ 9 → positionHolds words 0 ≡ true → (getD words 0 0 ≡ 0 → ⊥) → p ≡ positionFrom words 0
+      → stateOf p epoch unlocking ≡ stateCall words epoch unlocking
+  unfolding stateCall
+  state-read p l h n q = rw (q, eq-eqb (length words) 9 l, h, ne-eqb (getD words 0 0) 0 n)
 
 -- ---- what an answer tells
 

@@ -1,3 +1,3 @@
 pub mod Key
-pub mod State
 pub mod Positions
+pub mod State

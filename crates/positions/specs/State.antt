@@ -1,14 +1,17 @@
 -- Item 6: the state of a position in an epoch. Assumes nothing.
 use mathlib.Core.Bool.{Bool, true, false, not}
+use mathlib.Core.List.{List}
 use Prim.Native.Nat.{ℕ, _+_}
 use lib.Dec.{ltb, leb, eqb}
+use lib.ListN.{length, getD}
 use Rattle.types.specs.Base.{word, if_then_else_, Outcome, refused, accepted}
-use Rattle.types.specs.Refusals.{doesNotFit}
+use Rattle.types.specs.Refusals.{invalidPositions, doesNotFit}
 use Rattle.positions.specs.declared.position.Position.{Position}
 use Rattle.positions.specs.declared.position.PositionState.{PositionState}
 use Rattle.positions.specs.declared.position.PositionState.the-variants.{UNLOCKED, LOCKING, LOCKED, PREUNLOCKING, UNLOCKING}
 use Rattle.positions.specs.declared.position.StateAnswer.{StateAnswer}
-use Rattle.positions.specs.declared.position.StateAnswer.the-variants.{State, DoesNotFit}
+use Rattle.positions.specs.declared.position.StateAnswer.the-variants.{State, Refused}
+use Rattle.positions.specs.Positions.{positionFrom, positionHolds}
 
 -- 'Before activation LOCKING; no start LOCKED; before start PREUNLOCKING; before start + unlocking length UNLOCKING; else UNLOCKED. Once
 -- activated, a start + unlocking length past 64 bits is 13.' There is a start where the flag is 1.
@@ -28,7 +31,16 @@ stateOf p epoch unlocking = stateBy (p .«activation_epoch» .0) (p .«start_fla
 -- the refusal number or the state of each answer
 abbrev pub stateIs : StateAnswer → Outcome PositionState
 stateIs (State s) = accepted s
-stateIs DoesNotFit = refused doesNotFit
+stateIs (Refused k) = refused k
+
+-- item 6 of a list of words that is one position. Refusal 4, 'positions: not whole nines, over 256, kind, flag', is due for any length but
+-- nine, and where kind or flag is wrong; and for kind 0, since an empty position has no state
+unfoldable pub stateCall : List ℕ → (epoch unlocking : ℕ) → Outcome PositionState
+stateCall words epoch unlocking =
+    if not (eqb (length words) 9) then refused invalidPositions
+    else if not (positionHolds words 0) then refused invalidPositions
+    else if eqb (getD words 0 0) 0 then refused invalidPositions
+    else stateOf (positionFrom words 0) epoch unlocking
 
 -- item 8: 'LOCKED and PREUNLOCKING add'
 abbrev pub adds : PositionState → Bool

@@ -3,10 +3,13 @@ ghost use mathlib.Core.Path.{_≡_};
 ghost use Prim.Native.Nat.{_+_, _≤_};
 ghost use lib.ListN.{length};
 ghost use Rattle.positions.specs.Positions.{keyFrom, positionFrom, positionHolds, positionsHold, inPublisher, hasPublisher};
+ghost use Rattle.positions.specs.State.{stateIs, stateCall};
 use crate::Key;
 use crate::position::Position;
+use crate::position::StateAnswer;
 use types::Amount;
 use types::Epoch;
+use types::refusals::INVALID_POSITIONS;
 
 // The key whose four words start at `at`.
 pub fn key_at(words: &[u64], at: usize) -> Key
@@ -100,4 +103,26 @@ pub fn has_target_with_parameters_exposure(words: &[u64], publisher: Key) -> boo
         i += 1;
     }
     false
+}
+
+// The state of the position that the list is. Any list will do: one that is not one position as
+// it should be is refused, and so is an empty one, which has no state.
+pub fn position_state(
+    position: &[u64],
+    current_epoch: Epoch,
+    unlocking_duration: u64,
+) -> StateAnswer
+    ensures { λ r. ⌜ stateIs r ≡ stateCall (now (position .entry)) («current_epoch» .0) «unlocking_duration» ⌝ }
+{
+    if position.len() != 9 {
+        return StateAnswer::Refused(INVALID_POSITIONS);
+    }
+    if !holds_at(position, 0) {
+        return StateAnswer::Refused(INVALID_POSITIONS);
+    }
+    if position[0] == 0 {
+        return StateAnswer::Refused(INVALID_POSITIONS);
+    }
+    let found = position_at(position, 0);
+    found.get_current_position(current_epoch, unlocking_duration)
 }

@@ -4,6 +4,7 @@ ghost use Rattle.positions.specs.State.{stateIs, stateOf};
 use crate::Key;
 use types::Amount;
 use types::Epoch;
+use types::refusals::DOES_NOT_FIT;
 
 // The nine words of a position by name. The kind is 0 for an empty position, 1 for voting, 2 for
 // a pool; unlocking has a start where the flag is 1.
@@ -24,10 +25,10 @@ pub enum PositionState {
     UNLOCKING,
 }
 
-// A state, or that the end of unlocking is past 64 bits.
+// A state, or a refusal.
 pub enum StateAnswer {
     State(PositionState),
-    DoesNotFit,
+    Refused(u64),
 }
 
 impl Position {
@@ -47,7 +48,7 @@ impl Position {
             return StateAnswer::State(PositionState::LOCKED);
         }
         if u64::MAX - unlocking_duration < start {
-            return StateAnswer::DoesNotFit;
+            return StateAnswer::Refused(DOES_NOT_FIT);
         }
         if epoch < start {
             return StateAnswer::State(PositionState::PREUNLOCKING);
