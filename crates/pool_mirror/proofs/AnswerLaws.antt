@@ -8,6 +8,10 @@ use Rattle.types.specs.declared.Amount.{Amount}
 use Rattle.types.specs.declared.Epoch.{Epoch}
 use Rattle.positions.specs.declared.Key.{Key}
 use Rattle.positions.specs.declared.position.PositionState.{PositionState}
+use Rattle.positions.specs.declared.position.PositionState.the-variants.{LOCKING, LOCKED, PREUNLOCKING, UNLOCKING, UNLOCKED}
+use Rattle.positions.specs.declared.position.StateAnswer.{StateAnswer}
+use Rattle.positions.specs.declared.position.StateAnswer.the-variants as state
+use Rattle.positions.specs.State.{stateIs}
 use Rattle.image.specs.Changes.{Change, changedImage, acceptance}
 use Rattle.advance_plan.specs.Advance.{Advanced}
 use Rattle.pool.specs.Answers.{advanceIs, forecastIs}
@@ -33,7 +37,8 @@ use Rattle.integrity_pool.specs.declared.slash.SlashAnswer.{SlashAnswer}
 use Rattle.integrity_pool.specs.declared.slash.SlashAnswer.the-variants as slashed
 use Rattle.integrity_pool.specs.declared.stake_account.StakeAccounts.{StakeAccounts}
 use Rattle.integrity_pool.specs.Changes.{addCall, removeCall, stakeAccountCall, createSlashEventCall, createIs, createdIn, slashCall, slashIs, slashedWith, slashedRecord}
-use Rattle.pool_mirror.specs.Answers.{numberOf, advanceAnswer, oneAnswer, paymentAnswer, recordWords, paymentRecord, slashRecord}
+use Rattle.pool_mirror.specs.Inputs.{stateOf}
+use Rattle.pool_mirror.specs.Answers.{numberOf, advanceAnswer, oneAnswer, paymentAnswer, recordWords, paymentRecord, slashRecord, stateNumber, stateAnswer}
 
 -- the number does not look at the values
 pub number-map : {A B : Type 0} (f : A → B) (o : Outcome A) → numberOf (mapOutcome f o) ≡ numberOf o
@@ -166,3 +171,19 @@ module _ (P E : ℕ) (img : List ℕ) (g d : Slashing) (same : g ≡ d) (found e
     slash-slashed kept q =
         let z : accepted kept ≡ slashedWith d slashes = sym (ap slashIs q) ∙ e ∙ ap (λ v. slashedWith v (slashCall P E img v)) same in
         (ap numberOf z ∙ number-slashed, (x ∙ ap (λ v. changedImage P E img (slashCall P E img v)) same, ap (slashRecord found) z))
+
+module _ (found : List ℕ) (r : StateAnswer) (o : Outcome PositionState) (e : stateIs r ≡ o) where
+  pub state-refused : (k : ℕ) → r ≡ state.Refused k → (k ≡ numberOf o) × (found ≡ stateAnswer found o)
+  state-refused k q = let z : refused k ≡ o = sym (ap stateIs q) ∙ e in (ap numberOf z, ap (stateAnswer found) z)
+
+  pub state-told : (s : PositionState) (n : ℕ) → r ≡ state.State s → n ≡ stateNumber s → (0 ≡ numberOf o) × (n ∷ [] ≡ stateAnswer found o)
+  state-told s n q is = let z : accepted s ≡ o = sym (ap stateIs q) ∙ e in (ap numberOf z, ap (λ k. k ∷ []) is ∙ ap (stateAnswer found) z)
+
+-- the number that is answered for a state is one that a remove takes for it
+pub state-number-read : (s : PositionState) → stateOf (stateNumber s) ≡ s
+unfolding stateOf
+state-number-read UNLOCKED = refl
+state-number-read LOCKING = refl
+state-number-read LOCKED = refl
+state-number-read PREUNLOCKING = refl
+state-number-read UNLOCKING = refl

@@ -5,6 +5,7 @@ use mathlib.Core.List.{List}
 use Prim.Native.Nat.{ℕ, _+_, _/_, _<_}
 use native.Mathlib.Omega.{arith}
 use lib.Dec.{eqb, ltb, leb}
+use lib.ListN.{length, getD}
 use Rattle.types.specs.Base.{M, word, half, if_then_else_, Outcome, refused, accepted, mapOutcome, andThen, isAccepted, sumBelow, allBelow}
 use Rattle.types.specs.Refusals.{invalidImage, invalidPublisher, publisherNotFound, outdatedPublisherAccounting, doesNotFit, unexpectedPositionState}
 use Rattle.positions.specs.declared.Key.{Key}
@@ -13,7 +14,8 @@ use Rattle.positions.specs.declared.OptionKey.the-variants.{Some, None}
 use Rattle.positions.specs.declared.position.PositionState.{PositionState}
 use Rattle.positions.specs.declared.position.PositionState.the-variants.{LOCKING, LOCKED, PREUNLOCKING, UNLOCKING, UNLOCKED}
 use Rattle.positions.specs.Key.{sameKey}
-use Rattle.positions.specs.Positions.{positionsHold, hasPublisher}
+use Rattle.positions.specs.Positions.{positionHolds, positionsHold, hasPublisher}
+use Rattle.positions.specs.State.{stateBy, stateCall}
 use Rattle.publisher_caps.specs.Message.{messageHolds, negativeTime, timeOf}
 use Rattle.event.specs.Adjust.{rewardsOf, adjustOf}
 use Rattle.event.specs.Event.{Parts}
@@ -36,7 +38,7 @@ use Rattle.integrity_pool.specs.Changes.{checkedImageThen, addCall, removeCall,
 use Rattle.pool_mirror.proofs.InputLaws.{is-other}
 use Rattle.pool_mirror.specs.Inputs.{stateOf}
 use Rattle.pool_mirror.specs.Answers.{numberOf}
-use Rattle.pool_mirror.specs.Refusals.{has, Among, freshRefusals, advanceRefusals, paymentRefusals, addRefusals, removeRefusals, createRefusals, slashRefusals, feeRefusals, stakeAccountRefusals}
+use Rattle.pool_mirror.specs.Refusals.{has, Among, freshRefusals, advanceRefusals, paymentRefusals, addRefusals, removeRefusals, createRefusals, slashRefusals, feeRefusals, stakeAccountRefusals, positionStateRefusals}
 
 -- ---- of the shapes that definitions are made of
 
@@ -247,6 +249,20 @@ module _ (P E : ℕ) (img : List ℕ) where
       image-in _ P E img _ refl
       (if-in _ (not (accountHolds (a .«current_stake_account_positions») old && accountHolds (a .«new_stake_account_positions») new)) _ _ (refused-in _ _ _ refl) (then-in _ _ _ (index-in _ _ _ _ refl refl) (λ s. at-seat-in _ old new a s)))
 
+module _ (words : List ℕ) (epoch unlocking : ℕ) where
+  by-in : (activation flag start : ℕ) → Among positionStateRefusals (stateBy activation flag start epoch unlocking)
+  unfolding stateBy
+  by-in activation flag start =
+      if-in _ (ltb epoch activation) _ _ (accepted-in _ _)
+      (if-in _ (not (eqb flag 1)) _ _ (accepted-in _ _)
+      (if-in _ (leb word (start + unlocking)) _ _ (refused-in _ _ _ refl) (if-in _ (ltb epoch start) _ _ (accepted-in _ _) (if-in _ (ltb epoch (start + unlocking)) _ _ (accepted-in _ _) (accepted-in _ _)))))
+
+  pub position-state-refusals : Among positionStateRefusals (stateCall words epoch unlocking)
+  unfolding stateCall
+  position-state-refusals =
+      if-in _ (not (eqb (length words) 9)) _ _ (refused-in _ _ _ refl)
+      (if-in _ (not (positionHolds words 0)) _ _ (refused-in _ _ _ refl) (if-in _ (eqb (getD words 0 0) 0) _ _ (refused-in _ _ _ refl) (by-in _ _ _)))
+
 -- ---- what a caller makes of the number
 
 -- where 0 is in no list, a function that returns 0 was accepted
@@ -287,6 +303,9 @@ module _ (P E : ℕ) (img : List ℕ) where
 
   pub stake-account-zero : (old new : List ℕ) (a : StakeAccounts) → numberOf (stakeAccountCall P E img old new a) ≡ 0 → isAccepted (stakeAccountCall P E img old new a) ≡ true
   stake-account-zero old new a = zero-accepted stakeAccountRefusals refl _ (stake-account-refusals P E img old new a)
+
+pub position-state-zero : (words : List ℕ) (epoch unlocking : ℕ) → numberOf (stateCall words epoch unlocking) ≡ 0 → isAccepted (stateCall words epoch unlocking) ≡ true
+position-state-zero words epoch unlocking = zero-accepted positionStateRefusals refl _ (position-state-refusals words epoch unlocking)
 
 -- ---- a remove of stake that is UNLOCKING is always refused, and so is one with a number that is no state's
 

@@ -2,6 +2,8 @@
 use mathlib.Core.List.{List, [], _∷_}
 use Prim.Native.Nat.{ℕ}
 use Rattle.types.specs.Base.{Outcome, refused, accepted, after}
+use Rattle.positions.specs.declared.position.PositionState.{PositionState}
+use Rattle.positions.specs.declared.position.PositionState.the-variants.{LOCKING, LOCKED, PREUNLOCKING, UNLOCKING, UNLOCKED}
 use Rattle.advance_plan.specs.Advance.{Advanced}
 use Rattle.integrity_pool.specs.declared.payment.DelegationRecord.{DelegationRecord}
 use Rattle.integrity_pool.specs.Payment.{Payment}
@@ -32,3 +34,14 @@ paymentRecord found o = after o (λ a. recordWords (a .kept)) found
 
 abbrev pub slashRecord : List ℕ → Outcome DelegationRecord → List ℕ
 slashRecord found o = after o recordWords found
+
+-- a state's number, by the Rust's order: the one that a remove reads it from (`state-number-read`)
+abbrev pub stateNumber : PositionState → ℕ
+stateNumber UNLOCKED = 0
+stateNumber LOCKING = 1
+stateNumber LOCKED = 2
+stateNumber PREUNLOCKING = 3
+stateNumber UNLOCKING = 4
+
+abbrev pub stateAnswer : List ℕ → Outcome PositionState → List ℕ
+stateAnswer found o = after o (λ s. stateNumber s ∷ []) found

@@ -52,3 +52,6 @@ abbrev pub stakeAccountRefusals : List ℕ
 stakeAccountRefusals =
     invalidImage ∷ invalidPositions ∷ invalidPublisher ∷ publisherNotFound ∷ publisherOrRewardAuthorityNeedsToSign ∷ accountNotEnoughKeys
     ∷ publisherStakeAccountMismatch ∷ currentStakeAccountShouldBeUndelegated ∷ stakeAccountOwnerNeedsToSign ∷ newStakeAccountShouldBeUndelegated ∷ []
+
+abbrev pub positionStateRefusals : List ℕ
+positionStateRefusals = invalidPositions ∷ doesNotFit ∷ []

@@ -12,6 +12,7 @@ use pool::advance::ForecastAnswer;
 pub mod changes;
 pub mod inputs;
 pub mod payment;
+pub mod position_state;
 pub mod slash;
 pub mod stake_account;
 
