@@ -26,11 +26,12 @@ names =
     ∷ (102 ∷ 101 ∷ 101 ∷ [])  -- fee
     ∷ (115 ∷ 116 ∷ 97 ∷ 107 ∷ 101 ∷ 45 ∷ 97 ∷ 99 ∷ 99 ∷ 111 ∷ 117 ∷ 110 ∷ 116 ∷ [])  -- stake-account
     ∷ (115 ∷ 104 ∷ 111 ∷ 119 ∷ [])  -- show
+    ∷ (115 ∷ 116 ∷ 97 ∷ 116 ∷ 101 ∷ [])  -- state
     ∷ []
 
 -- how many calls there are, the one that is none counted too
 abbrev pub callCount : ℕ
-callCount = 18
+callCount = 19
 
 -- the call of a name; 0 for a name that is not there
 abbrev pub callOf : List ℕ → ℕ
@@ -86,6 +87,7 @@ fields =
     ∷ (n ∷ [])  -- fee FEE
     ∷ (k ∷ k ∷ k ∷ o ∷ o ∷ l ∷ o ∷ l ∷ [])  -- stake-account PUBLISHER SIGNER AUTHORITY OLD OLD_OWNER OLD_POSITIONS NEW NEW_POSITIONS
     ∷ []  -- show
+    ∷ (n ∷ l ∷ [])  -- state EPOCH POSITION
     ∷ []
 
 -- the kind of field i of a call

@@ -21,6 +21,17 @@ pub fn ok(out: &mut [u8], pen: Pen, values: &[u64]) -> Pen
     output::byte(out, next, b'\n')
 }
 
+// `ok` and the name of a state, the first being 1.
+pub fn state(out: &mut [u8], pen: Pen, state: usize) -> Pen
+    requires { ⌜ Writable (pen .at) (length (now out)) × (0 < state) ⌝ }
+    ensures { λ r. ⌜ r .at ≤ length (now (out .entry)) ⌝ }
+{
+    let a = output::text(&mut out[..], pen, b"ok ");
+    let from = item_of(&fields::STATES, 0, state - 1);
+    let b = item(&mut out[..], a, &fields::STATES, from);
+    output::byte(out, b, b'\n')
+}
+
 // A refusal's number.
 pub fn refused(out: &mut [u8], pen: Pen, n: u64) -> Pen
     requires { ⌜ Writable (pen .at) (length (now out)) ⌝ }
@@ -177,7 +188,8 @@ fn place(out: &mut [u8], pen: Pen, call: usize, field: usize) -> Pen
         slash NOW PUBLISHER ACCOUNT RECORD_EPOCH NEXT_INDEX INDEX EVENT_EPOCH LOCKED PREUNLOCKING\n\
         fee FEE\n\
         stake-account PUBLISHER SIGNER AUTHORITY OLD OLD_OWNER OLD_POSITIONS NEW NEW_POSITIONS\n\
-        show\n";
+        show\n\
+        state EPOCH POSITION\n";
     let row = row_of(calls, call);
     let name = item(&mut out[..], pen, calls, row);
     let whole = field_name(&mut out[..], name, calls, row, field);

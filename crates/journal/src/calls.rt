@@ -37,6 +37,8 @@ pub const STAKE_ACCOUNT: usize = 16;
 
 pub const SHOW: usize = 17;
 
+pub const POSITION_STATE: usize = 18;
+
 // Kinds of fields.
 pub const NUMBER: u8 = b'n';
 
@@ -57,7 +59,7 @@ pub const WORDS: u8 = b'w';
 pub const NONE: u8 = b'.';
 
 // A row of kinds for each call, from row 1 on. A call has at most nine fields, so that every row ends with none.
-const KINDS: [u8; 180] = *b"\
+const KINDS: [u8; 190] = *b"\
     ..........\
     nn........\
     nn........\
@@ -75,7 +77,8 @@ const KINDS: [u8; 180] = *b"\
     nkknnnnnn.\
     n.........\
     kkkoolol..\
-    ..........";
+    ..........\
+    nl........";
 
 // The call of a name, 0 where there is none.
 pub fn call_of(s: &[u8]) -> usize
@@ -84,7 +87,7 @@ pub fn call_of(s: &[u8]) -> usize
     text::items::place(
         s,
         b"new settings image nonzero load save fresh advance forecast payment \
-          add remove create-slash-event slash fee stake-account show",
+          add remove create-slash-event slash fee stake-account show state",
     )
 }
 

@@ -53,6 +53,9 @@ pub const NO_OWNER: u8 = 18;
 
 pub const NO_ACCOUNT: u8 = 19;
 
+// The names of the states, a space between two, as a line's field has them and an answer.
+pub const STATES: [u8; 46] = *b"LOCKING LOCKED PREUNLOCKING UNLOCKING UNLOCKED";
+
 // The words of a position list: 257 positions, one more than the library accepts.
 pub const POSITIONS_ROOM: usize = 2313;
 
@@ -130,7 +133,7 @@ fn state(s: &[u8], mut args: [u64; 50], k: usize) -> Values
     requires { ⌜ k < 10 ⌝ }
     ensures { λ r. ⌜ (r .what ≡ whatState (stateOf (now (s .entry)))) × (r .args ≡ putState (stateOf (now (s .entry))) k args) ⌝ }
 {
-    let state = items::place(s, b"LOCKING LOCKED PREUNLOCKING UNLOCKING UNLOCKED");
+    let state = items::place(s, &STATES);
     if state == 0 {
         return Values {
             args,
