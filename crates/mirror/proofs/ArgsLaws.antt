@@ -1,5 +1,5 @@
 -- Laws of a line's fields as the library takes them: one for each way out of a reader. Assumes nothing.
-use mathlib.Core.Path.{_≡_}
+use mathlib.Core.Path.{_≡_, refl}
 use mathlib.Core.List.{List}
 use Prim.Native.Nat.{ℕ}
 use lib.ListN.{getD}
@@ -8,12 +8,13 @@ use Rattle.journal.specs.Fields.{noOwner, noAccount}
 use Rattle.positions.specs.declared.Key.{Key}
 use Rattle.positions.specs.declared.OptionKey.{OptionKey}
 use Rattle.positions.specs.declared.OptionKey.the-variants.{Some, None}
+use Rattle.positions.specs.declared.position.PositionState.{PositionState}
 use Rattle.positions.specs.declared.position.PositionState.the-variants.{LOCKING, LOCKED, PREUNLOCKING, UNLOCKING, UNLOCKED}
 use Rattle.pool.specs.declared.changes.Delegation.{Delegation}
 use Rattle.integrity_pool.specs.declared.payment.DelegationRecord.{DelegationRecord}
 use Rattle.integrity_pool.specs.declared.slash.Slashing.{Slashing}
 use Rattle.integrity_pool.specs.declared.stake_account.StakeAccounts.{StakeAccounts}
-use Rattle.mirror.specs.Args.{numberAt, keyAt, keyOrNone, recordIn, delegationIn, slashingIn, accountsIn, stateNumbered, wrongAccount, wrongAccounts, wrongAccountField, stakeAccount, wrongLine}
+use Rattle.mirror.specs.Args.{numberAt, keyAt, keyOrNone, recordIn, delegationIn, slashingIn, accountsIn, stateNumbered, stateNumber, wrongAccount, wrongAccounts, wrongAccountField, stakeAccount, wrongLine}
 
 module _ (args : List ℕ) (k : ℕ) where
   pub no-key : getD args k 0 ≡ 0 → None ≡ keyOrNone args k
@@ -88,6 +89,15 @@ module _ (n : ℕ) where
         pub is-unlocked : (n ≡ 4 → ⊥) → UNLOCKED ≡ stateNumbered n
         unfolding stateNumbered
         is-unlocked d = rw (ne-eqb _ _ a, ne-eqb _ _ b, ne-eqb _ _ c, ne-eqb _ _ d)
+
+-- a state's number is one that is read as the state
+pub state-number-read : (s : PositionState) → stateNumbered (stateNumber s) ≡ s
+unfolding stateNumbered
+state-number-read LOCKING = refl
+state-number-read LOCKED = refl
+state-number-read PREUNLOCKING = refl
+state-number-read UNLOCKING = refl
+state-number-read UNLOCKED = refl
 
 module _ (account owner positions : ℕ) where
   module _ (there : account ≡ 0 → ⊥) where

@@ -63,6 +63,14 @@ unfoldable pub stateNumbered : ℕ → PositionState
 stateNumbered n =
     cond (eqb n 1) LOCKING (cond (eqb n 2) LOCKED (cond (eqb n 3) PREUNLOCKING (cond (eqb n 4) UNLOCKING UNLOCKED)))
 
+-- the number of a state, by its place among the same names (`state-number-read`)
+abbrev pub stateNumber : PositionState → ℕ
+stateNumber LOCKING = 1
+stateNumber LOCKED = 2
+stateNumber PREUNLOCKING = 3
+stateNumber UNLOCKING = 4
+stateNumber UNLOCKED = 5
+
 -- what is wrong with an account's fields, 0 being nothing: one that is there has its owner, an absent one has no owner and no positions
 unfoldable pub wrongAccount : (account owner positions : ℕ) → ℕ
 wrongAccount account owner positions =

@@ -1,7 +1,7 @@
 // A line's numbers and keys as the library takes them.
 ghost use mathlib.Core.Path.{_≡_};
 ghost use Prim.Native.Nat.{_<_};
-ghost use Rattle.mirror.specs.Args.{keyAt, keyOrNone, recordIn, delegationIn, stateNumbered};
+ghost use Rattle.mirror.specs.Args.{keyAt, keyOrNone, recordIn, delegationIn, stateNumbered, stateNumber};
 use integrity_pool::payment::DelegationRecord;
 use pool::changes::Delegation;
 use positions::Key;
@@ -62,5 +62,18 @@ pub fn position_state(n: u64) -> PositionState
         3 => PositionState::PREUNLOCKING,
         4 => PositionState::UNLOCKING,
         _ => PositionState::UNLOCKED,
+    }
+}
+
+// The number that a line's field has for a state.
+pub fn state_number(state: PositionState) -> usize
+    ensures { λ r. ⌜ (r ≡ stateNumber state) × (0 < r) ⌝ }
+{
+    match state {
+        PositionState::LOCKING => 1,
+        PositionState::LOCKED => 2,
+        PositionState::PREUNLOCKING => 3,
+        PositionState::UNLOCKING => 4,
+        PositionState::UNLOCKED => 5,
     }
 }

@@ -5,6 +5,7 @@ use crate::change_calls::change_call;
 use crate::image_calls::file_call;
 use crate::image_calls::image_call;
 use crate::pool_calls::pool_call;
+use crate::pool_calls::state_call;
 use crate::site::Done;
 use crate::site::Site;
 use crate::site::failed;
@@ -59,6 +60,9 @@ pub fn act(
     }
     if call <= calls::PAYMENT {
         return pool_call(call, site, args, field, list, pool, out, pen);
+    }
+    if call == calls::POSITION_STATE {
+        return state_call(site, args, list, out, pen);
     }
     change_call(call, site, args, first, list, pool, out, pen)
 }

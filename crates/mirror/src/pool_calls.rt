@@ -1,4 +1,4 @@
-// The calls that close epochs, and payments.
+// The calls that close epochs, payments, and a position's state.
 ghost use Prim.Native.Nat.{_≤_};
 ghost use lib.ListN.{length};
 ghost use Rattle.journal.specs.Held.{Writable};
@@ -16,6 +16,9 @@ use journal::calls;
 use journal::output::Pen;
 use pool::advance::AdvanceAnswer;
 use pool::advance::ForecastAnswer;
+use positions::list::position_state;
+use positions::position::StateAnswer;
+use types::Epoch;
 
 // fresh EPOCH
 fn fresh(site: Site, args: [u64; 50], image: &mut [u64], out: &mut [u8], pen: Pen) -> Pen
@@ -181,5 +184,29 @@ pub fn pool_call(
     let size = site.size;
     let image = &mut pool[..size];
     let told = ask(call, site, args, message, positions, image, out, pen);
+    finished(site, told)
+}
+
+// A state's name, or a refusal.
+fn tell_state(found: StateAnswer, out: &mut [u8], pen: Pen) -> Pen
+    requires { ⌜ Writable (pen .at) (length (now out)) ⌝ }
+    ensures { λ r. ⌜ r .at ≤ length (now (out .entry)) ⌝ }
+{
+    match found {
+        StateAnswer::State(state) => {
+            let n = args::state_number(state);
+            answer::state(out, pen, n)
+        }
+        StateAnswer::Refused(n) => answer::refused(out, pen, n),
+    }
+}
+
+// state EPOCH POSITION, of which the pool is no part.
+pub fn state_call(site: Site, args: [u64; 50], position: &[u64], out: &mut [u8], pen: Pen) -> Done
+    requires { ⌜ Writable (pen .at) (length (now out)) ⌝ }
+    ensures { λ r. ⌜ (r .site .size ≤ site .size) × (r .pen .at ≤ length (now (out .entry))) ⌝ }
+{
+    let found = position_state(position, Epoch(args[0]), site.unlocking_duration);
+    let told = tell_state(found, out, pen);
     finished(site, told)
 }

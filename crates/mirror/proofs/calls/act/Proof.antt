@@ -83,17 +83,26 @@ same-length-8 c = search needs
 returns-5 : tie.Need-returns-5
 returns-5 c = search needs
 
-change-call-requires : tie.Need-change-call-requires
-change-call-requires c κs = search needs
+state-call-requires : tie.Need-state-call-requires
+state-call-requires c κs = search needs
 
 same-length-9 : tie.Need-same-length-9
 same-length-9 c = search needs
 
+returns-6 : tie.Need-returns-6
+returns-6 c = search needs
+
+change-call-requires : tie.Need-change-call-requires
+change-call-requires c κs = search needs
+
 same-length-10 : tie.Need-same-length-10
 same-length-10 c = search needs
 
-returns-6 : tie.Need-returns-6
-returns-6 c = search needs
+same-length-11 : tie.Need-same-length-11
+same-length-11 c = search needs
+
+returns-7 : tie.Need-returns-7
+returns-7 c = search needs
 
 pub act-spec : {M : Type 1} → statement M
 act-spec =
@@ -125,7 +134,10 @@ act-spec =
     same-length-7
     same-length-8
     returns-5
-    change-call-requires
+    state-call-requires
     same-length-9
+    returns-6
+    change-call-requires
     same-length-10
-    returns-6)
+    same-length-11
+    returns-7)
