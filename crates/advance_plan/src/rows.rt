@@ -31,41 +31,41 @@ fn mark_found(words: &mut [u64; 16], found: Found)
     }
 }
 
-// Into how many parts the index divides the keys: at least four for each row, so that most parts have one row at most.
+// Into how many parts the index divides the keys: at least two for each row, so that most parts have one row at most.
 fn parts_for(rows: usize) -> usize
-    ensures { λ r. ⌜ (0 < r) × (r ≤ 4096) × (rows ≤ 64 → r ≤ 256) ⌝ }
+    ensures { λ r. ⌜ (0 < r) × (r ≤ 2048) × (rows ≤ 64 → r ≤ 128) ⌝ }
 {
     if rows <= 16 {
-        return 64;
+        return 32;
     }
     if rows <= 64 {
-        return 256;
+        return 128;
     }
     if rows <= 256 {
-        return 1024;
+        return 512;
     }
-    4096
+    2048
 }
 
-// How many rows are in each part. Nothing is proved of the index: where it is wrong, a row is only found later.
+// How many rows are in each part, in the entry behind the part's. Nothing is proved of the index: where it is wrong, a row is only found later.
 fn count_rows(m: &[u8], rows: usize, parts: usize, index: &mut [u16])
-    requires { ⌜ Whole (now m) × (rows ≡ rowsOf (now m)) × (0 < parts) × (parts ≤ 4096) × (parts ≤ length (now index)) ⌝ }
+    requires { ⌜ Whole (now m) × (rows ≡ rowsOf (now m)) × (0 < parts) × (parts ≤ 4096) × (parts < length (now index)) ⌝ }
 {
     let mut i = 0;
     while i < rows {
-        let part = publisher_caps::row_part(m, i, parts);
-        index[part] = wrapping_add_u16(index[part], 1);
+        let next = publisher_caps::row_part(m, i, parts) + 1;
+        index[next] = wrapping_add_u16(index[next], 1);
         i += 1;
     }
 }
 
-// Each count becomes the sum up to it: the row behind those of the part.
+// Each entry becomes the sum up to it: the first row of its part, or of a later one.
 fn sum_counts(parts: usize, index: &mut [u16])
-    requires { ⌜ (parts ≤ 4096) × (parts ≤ length (now index)) ⌝ }
+    requires { ⌜ (parts ≤ 4096) × (parts < length (now index)) ⌝ }
 {
     let mut sum: u16 = 0;
     let mut part: usize = 0;
-    while part < parts {
+    while part <= parts {
         sum = wrapping_add_u16(sum, index[part]);
         index[part] = sum;
         part += 1;
@@ -79,21 +79,18 @@ fn row_number(entry: u16) -> usize
     entry as usize
 }
 
-// The row of a key, which the index guesses.
+// The row of a key. The search begins with the rows of its part.
 fn find_row(index: &[u16], parts: usize, m: &[u8], rows: usize, key: Key) -> Found
-    requires { ⌜ (0 < parts) × (parts ≤ 4096) × (parts ≤ length (now index)) × Whole (now m) × (rows ≡ rowsOf (now m)) ⌝ }
+    requires { ⌜ (0 < parts) × (parts ≤ 4096) × (parts < length (now index)) × Whole (now m) × (rows ≡ rowsOf (now m)) ⌝ }
     ensures { λ r. ⌜ r ≡ lookup (now (m .entry)) (numberOf key) 0 rows ⌝ }
 {
     let part = publisher_caps::key_part(key, parts);
-    let high = row_number(index[part]);
-    if part == 0 {
-        return publisher_caps::find(m, rows, 0, high, key);
-    }
-    let low = row_number(index[part - 1]);
+    let low = row_number(index[part]);
+    let high = row_number(index[part + 1]);
     publisher_caps::find(m, rows, low, high, key)
 }
 
-// The caps of the first seats go to `caps`; the rows of their keys are marked. The index has room for `parts`.
+// The caps of the first seats go to `caps`; the rows of their keys are marked. The index has room for `parts` and one entry more.
 fn match_indexed(
     pool: &[u64],
     p: usize,
@@ -105,7 +102,7 @@ fn match_indexed(
     parts: usize,
     index: &mut [u16],
 ) -> BoolArray
-    requires { ⌜ Sized (now pool) p e × (seats ≤ p) × Whole (now m) × (rows ≡ rowsOf (now m)) × (p ≤ length (now caps)) × (0 < parts) × (parts ≤ 4096) × (parts ≤ length (now index)) ⌝ }
+    requires { ⌜ Sized (now pool) p e × (seats ≤ p) × Whole (now m) × (rows ≡ rowsOf (now m)) × (p ≤ length (now caps)) × (0 < parts) × (parts ≤ 4096) × (parts < length (now index)) ⌝ }
     ensures { λ r. ⌜ Matched (read p e (now (pool .entry))) (now (m .entry)) seats (now (caps .exit)) (r .words) ⌝ }
 {
     count_rows(m, rows, parts, index);
@@ -135,7 +132,7 @@ fn match_few(
     requires { ⌜ Sized (now pool) p e × (seats ≤ p) × Whole (now m) × (rows ≡ rowsOf (now m)) × (p ≤ length (now caps)) × (rows ≤ 64) ⌝ }
     ensures { λ r. ⌜ Matched (read p e (now (pool .entry))) (now (m .entry)) seats (now (caps .exit)) (r .words) ⌝ }
 {
-    let mut index = [0u16; 256];
+    let mut index = [0u16; 129];
     let parts = parts_for(rows);
     match_indexed(pool, p, e, seats, m, rows, caps, parts, &mut index)
 }
@@ -156,7 +153,7 @@ pub fn match_rows(
     if rows <= 64 {
         return match_few(pool, p, e, seats, m, rows, caps);
     }
-    let mut index = [0u16; 4096];
+    let mut index = [0u16; 2049];
     let parts = parts_for(rows);
     match_indexed(pool, p, e, seats, m, rows, caps, parts, &mut index)
 }

@@ -1,5 +1,6 @@
 -- Laws of looking a key up: one for each way that the search goes, and what the row says. Assumes nothing.
-use mathlib.Core.Path.{_≡_, refl, sym, ap, subst, _∙_}
+use mathlib.Core.Path.{_≡_, refl, sym, ap, ap₂, subst, _∙_}
+use mathlib.Core.Logic.{_⊎_, ⊎-elim}
 use mathlib.Core.Bool.{Bool, true, false}
 use mathlib.Core.List.{List}
 use Prim.Native.Nat.{ℕ, zero, suc, _+_, _-_, _*_, _/_, _<_, _≤_}
@@ -8,14 +9,13 @@ use native.Mathlib.Decide.{ℕ-discrete}
 use native.Mathlib.Omega.{arith}
 use lib.Dec.{ltb, eqb}
 use lib.ListN.{getD}
-use borrow.Author.Tests.{lt-ltb, le-ltb, eq-eqb, ne-eqb, ltb-true, ltb-false, eqb-true, eqb-false}
+use borrow.Author.Tests.{eq-eqb, ne-eqb, ltb-true, ltb-false, eqb-true, eqb-false}
 use Rattle.types.specs.Base.{if_then_else_, word}
-use Rattle.types.proofs.Below.{and-both}
 use Rattle.publisher_caps.specs.declared.Found.{Found}
 use Rattle.publisher_caps.specs.declared.Found.the-variants.{At, Nothing}
 use Rattle.publisher_caps.specs.Key.{bigEndian, number}
 use Rattle.publisher_caps.specs.Message.{rowsOf, keyAt, capAt, Whole}
-use Rattle.publisher_caps.specs.Lookup.{lookup, foundOf, hasKey, AboveFront, BelowRest, Encloses, RowIn, capIn, capOf}
+use Rattle.publisher_caps.specs.Lookup.{lookup, foundOf, AboveFront, BelowRest, Encloses, RowIn, capIn, capOf}
 use Rattle.publisher_caps.proofs.KeyLaws.{bytes-below, words-over, words-under}
 
 suc-add : (a b : ℕ) → suc a + b ≡ suc (a + b)
@@ -110,10 +110,6 @@ module _ (m : List ℕ) (from rows key : ℕ) (given : Whole m × (from + rows �
 
 -- ---- rows that a key can stand in alone
 
-pub not-there : (m : List ℕ) (rows i key : ℕ) → rows ≤ i → false ≡ hasKey m rows i key
-unfolding hasKey
-not-there m rows i key h = rw (le-ltb i rows h)
-
 module _ (m : List ℕ) (whole : Whole m) where
   -- later keys are not smaller
   keys-rise : (i j : ℕ) → i ≤ j → j < rowsOf m → keyAt m i ≤ keyAt m j
@@ -138,17 +134,13 @@ module _ (m : List ℕ) (whole : Whole m) where
   below-rest high first behind e h i b c d l k fb fc fd =
       omega (arith, keys-rise high i l k, words-under m (11 + high * 40) first b c d (omega arith) fb fc fd)
 
-  -- the first of the rows has the key
-  pub from-first : (low key rows : ℕ) → rows ≡ rowsOf m → hasKey m rows low key ≡ true → foundOf low ≡ lookup m key 0 rows
-  unfolding hasKey
-  from-first low key rows er e =
-      let t = and-both (ltb low rows) (eqb (keyAt m low) key) e in
-      let l : low < rowsOf m = omega (arith, ltb-true low rows (t .0)) in
-      found-at low (λ z. omega (arith, whole .few))
-      ∙ first m key low (rows - low) (omega arith) (sym (eqb-true (keyAt m low) key (t .1)))
-      ∙ ap (λ (n : ℕ). lookup m key n (rows - low)) (sym (zero-add low))
-      ∙ skip m key low 0 (rows - low) (λ j a b z. omega (arith, whole .ordered j low (omega arith) l, eqb-true (keyAt m low) key (t .1)))
-      ∙ ap (λ (n : ℕ). lookup m key 0 n) (omega arith)
+  -- a search begins with the rows that a key with this first word stands in alone, or with all of them
+  abbrev pub Begun : (low high first rows from count : ℕ) → Type 0
+  Begun low high first rows from count = (Encloses m low high first × (from ≡ low) × (count ≡ high - low)) ⊎ ((from ≡ 0) × (count ≡ rows))
+
+  pub begun-inside : (low high first rows from count : ℕ) → rows ≡ rowsOf m → Begun low high first rows from count → from + count ≤ rowsOf m
+  begun-inside low high first rows from count er w =
+      ⊎-elim (λ t. omega (arith, t .0 .order, t .0 .within, t .1, t .2)) (λ t. omega (arith, t .0, t .1)) w
 
   module _ (low high k0 k1 k2 k3 : ℕ) (f1 : k1 < word) (f2 : k2 < word) (f3 : k3 < word) where
     abbrev key : ℕ
@@ -165,20 +157,13 @@ module _ (m : List ℕ) (whole : Whole m) where
           ∙ skip m key low 0 (high - low + (rows - high)) (λ i a b q. omega (arith, only .above i k1 k2 k3 (omega arith)))
           ∙ ap (λ (n : ℕ). lookup m key 0 n) (omega arith)
 
-      pub from-all : (rows r : ℕ) → rows ≡ rowsOf m → foundOf r ≡ lookup m key low (high - low) → foundOf r ≡ lookup m key 0 rows
-      from-all rows r er e = e ∙ enclosed rows er
-
-      -- none is left behind the first
-      pub from-none : (rows : ℕ) → rows ≡ rowsOf m → high ≤ low + 1 → hasKey m rows low key ≡ false → foundOf 1_024 ≡ lookup m key 0 rows
-      unfolding hasKey
-      from-none rows er l ne = found-none ∙ sym (lookup-without m key low (high - low) none) ∙ enclosed rows er
-        where
-          none : (i : ℕ) → low ≤ i → i < low + (high - low) → keyAt m i ≡ key → ⊥
-          none i a b q =
-              let s : i ≡ low = omega arith in
-              let t : low < rows = omega (arith, only .within) in
-              let e : eqb (keyAt m low) key ≡ false = rw (lt-ltb low rows t) at ne in
-              eqb-false (keyAt m low) key e (ap (keyAt m) (sym s) ∙ q)
+    pub begun-found : (rows from count r : ℕ) → rows ≡ rowsOf m → Begun low high k0 rows from count → foundOf r ≡ lookup m key from count
+        → foundOf r ≡ lookup m key 0 rows
+    begun-found rows from count r er w e =
+        ⊎-elim
+        (λ t. e ∙ ap₂ (λ (f n : ℕ). lookup m key f n) (t .1) (t .2) ∙ enclosed (t .0) rows er)
+        (λ t. e ∙ ap₂ (λ (f n : ℕ). lookup m key f n) (t .0) (t .1))
+        w
 
 -- what a search's number says
 module _ (m : List ℕ) (rows key key′ n : ℕ) (same : key ≡ key′) (found : foundOf n ≡ lookup m key 0 rows) where

@@ -7,14 +7,12 @@ use native.Mathlib.Nat.{mod-lt, mod-eq-of-lt}
 use native.Mathlib.Omega.{arith}
 use lib.Dec.{eqb}
 use lib.ListN.{getD}
-use borrow.Author.Tests.{lt-ltb, eq-eqb, ne-eqb, eqb-true, eqb-false}
+use borrow.Author.Tests.{eq-eqb, ne-eqb, eqb-true, eqb-false}
 use Rattle.types.specs.Base.{word}
 use Rattle.positions.specs.declared.Key.{Key}
 use Rattle.positions.specs.Key.{sameKey}
 use Rattle.positions.proofs.KeyLaws.{same-last, same-says}
 use Rattle.publisher_caps.specs.Key.{bigEndian, swapped, pair, number, numberOf}
-use Rattle.publisher_caps.specs.Message.{keyAt}
-use Rattle.publisher_caps.specs.Lookup.{hasKey}
 use Rattle.publisher_caps.proofs.KeyLaws.{bytes-below, turned, swap-sum, four, number-same}
 
 -- the words of a key are words
@@ -107,46 +105,36 @@ module _ (a b : Key) (fa : KeyFits a) (fb : KeyFits b) where
               let z : true ≡ false = sym (eq-eqb (numberOf a) (numberOf b) n) ∙ e in
               z
 
--- ---- whether row i has the key of four words
+-- ---- whether the key at `at` is that of four words
 
-module _ (m : List ℕ) (small : (i : ℕ) → getD m i 0 < 256) (i rows k0 k1 k2 k3 : ℕ) (f1 : k1 < word) (f2 : k2 < word) (f3 : k3 < word)
-    (there : i < rows) (at : ℕ) (row : at ≡ 11 + i * 40)
-  where
-    abbrev Same : Type 0
-    Same = keyAt m i ≡ number k0 k1 k2 k3
+module _ (m : List ℕ) (small : (i : ℕ) → getD m i 0 < 256) (at k0 k1 k2 k3 : ℕ) (f1 : k1 < word) (f2 : k2 < word) (f3 : k3 < word) where
+  abbrev Same : Type 0
+  Same = bigEndian m at 32 ≡ number k0 k1 k2 k3
 
-    whole : (a b c d : ℕ) → a ≡ bigEndian m at 8 → b ≡ bigEndian m (at + 8) 8 → c ≡ bigEndian m (at + 16) 8 → d ≡ bigEndian m (at + 24) 8
-        → number a b c d ≡ keyAt m i
-    whole a b c d ea eb ec ed = four m at a b c d ea eb ec ed ∙ ap (λ (n : ℕ). bigEndian m n 32) row
+  parts : Same → (bigEndian m at 8 ≡ k0) × (bigEndian m (at + 8) 8 ≡ k1) × (bigEndian m (at + 16) 8 ≡ k2) × (bigEndian m (at + 24) 8 ≡ k3)
+  parts e =
+      let q = four m at _ _ _ _ refl refl refl refl ∙ e in
+      let t3 = pair-same _ _ _ _ (bytes-below m small (at + 24) 8) f3 q in
+      let t2 = pair-same _ _ _ _ (bytes-below m small (at + 16) 8) f2 (t3 .0) in
+      let t1 = pair-same _ _ _ _ (bytes-below m small (at + 8) 8) f1 (t2 .0) in
+      (t1 .0, t1 .1, t2 .1, t3 .1)
 
-    parts : Same → (bigEndian m at 8 ≡ k0) × (bigEndian m (at + 8) 8 ≡ k1) × (bigEndian m (at + 16) 8 ≡ k2) × (bigEndian m (at + 24) 8 ≡ k3)
-    parts e =
-        let q = whole _ _ _ _ refl refl refl refl ∙ e in
-        let t3 = pair-same _ _ _ _ (bytes-below m small (at + 24) 8) f3 q in
-        let t2 = pair-same _ _ _ _ (bytes-below m small (at + 16) 8) f2 (t3 .0) in
-        let t1 = pair-same _ _ _ _ (bytes-below m small (at + 8) 8) f1 (t2 .0) in
-        (t1 .0, t1 .1, t2 .1, t3 .1)
+  unlike : (Same → ⊥) → false ≡ eqb (bigEndian m at 32) (number k0 k1 k2 k3)
+  unlike ne = sym (ne-eqb _ _ ne)
 
-    answered : (t : Bool) → t ≡ eqb (keyAt m i) (number k0 k1 k2 k3) → t ≡ hasKey m rows i (number k0 k1 k2 k3)
-    unfolding hasKey
-    answered t e = rw (lt-ltb i rows there) e
+  pub unlike-0 : (v : ℕ) → v ≡ bigEndian m at 8 → (v ≡ k0 → ⊥) → false ≡ eqb (bigEndian m at 32) (number k0 k1 k2 k3)
+  unlike-0 v e ne = unlike (λ q. ne (e ∙ parts q .0))
 
-    unlike : (Same → ⊥) → false ≡ hasKey m rows i (number k0 k1 k2 k3)
-    unlike ne = answered false (sym (ne-eqb _ _ ne))
+  pub unlike-1 : (v : ℕ) → v ≡ bigEndian m (at + 8) 8 → (v ≡ k1 → ⊥) → false ≡ eqb (bigEndian m at 32) (number k0 k1 k2 k3)
+  unlike-1 v e ne = unlike (λ q. ne (e ∙ parts q .1))
 
-    pub unlike-0 : (v : ℕ) → v ≡ bigEndian m at 8 → (v ≡ k0 → ⊥) → false ≡ hasKey m rows i (number k0 k1 k2 k3)
-    unlike-0 v e ne = unlike (λ q. ne (e ∙ parts q .0))
+  pub unlike-2 : (v : ℕ) → v ≡ bigEndian m (at + 16) 8 → (v ≡ k2 → ⊥) → false ≡ eqb (bigEndian m at 32) (number k0 k1 k2 k3)
+  unlike-2 v e ne = unlike (λ q. ne (e ∙ parts q .2))
 
-    pub unlike-1 : (v : ℕ) → v ≡ bigEndian m (at + 8) 8 → (v ≡ k1 → ⊥) → false ≡ hasKey m rows i (number k0 k1 k2 k3)
-    unlike-1 v e ne = unlike (λ q. ne (e ∙ parts q .1))
-
-    pub unlike-2 : (v : ℕ) → v ≡ bigEndian m (at + 16) 8 → (v ≡ k2 → ⊥) → false ≡ hasKey m rows i (number k0 k1 k2 k3)
-    unlike-2 v e ne = unlike (λ q. ne (e ∙ parts q .2))
-
-    pub by-last : (a b c d : ℕ) → a ≡ bigEndian m at 8 → b ≡ bigEndian m (at + 8) 8 → c ≡ bigEndian m (at + 16) 8 → d ≡ bigEndian m (at + 24) 8
-        → a ≡ k0 → b ≡ k1 → c ≡ k2 → eqb d k3 ≡ hasKey m rows i (number k0 k1 k2 k3)
-    by-last a b c d ea eb ec ed qa qb qc = go (eqb d k3) refl
-      where
-        go : (t : Bool) → eqb d k3 ≡ t → t ≡ hasKey m rows i (number k0 k1 k2 k3)
-        go true e = answered true (sym (eq-eqb _ _ (sym (whole a b c d ea eb ec ed) ∙ number-same qa qb qc (eqb-true d k3 e))))
-        go false e = unlike (λ q. eqb-false d k3 e (ed ∙ parts q .3))
+  pub by-last : (a b c d : ℕ) → a ≡ bigEndian m at 8 → b ≡ bigEndian m (at + 8) 8 → c ≡ bigEndian m (at + 16) 8 → d ≡ bigEndian m (at + 24) 8
+      → a ≡ k0 → b ≡ k1 → c ≡ k2 → eqb d k3 ≡ eqb (bigEndian m at 32) (number k0 k1 k2 k3)
+  by-last a b c d ea eb ec ed qa qb qc = go (eqb d k3) refl
+    where
+      go : (t : Bool) → eqb d k3 ≡ t → t ≡ eqb (bigEndian m at 32) (number k0 k1 k2 k3)
+      go true e = sym (eq-eqb _ _ (sym (four m at a b c d ea eb ec ed) ∙ number-same qa qb qc (eqb-true d k3 e)))
+      go false e = unlike (λ q. eqb-false d k3 e (ed ∙ parts q .3))

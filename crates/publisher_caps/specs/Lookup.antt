@@ -1,8 +1,7 @@
 -- Item 2: the row of a key, and a key's cap. Assumes nothing.
-use mathlib.Core.Bool.{Bool, _&&_}
 use mathlib.Core.List.{List}
 use Prim.Native.Nat.{ℕ, zero, suc, _+_, _≤_, _<_}
-use lib.Dec.{ltb, eqb}
+use lib.Dec.{eqb}
 use Rattle.types.specs.Base.{word, if_then_else_}
 use Rattle.publisher_caps.specs.declared.Found.{Found}
 use Rattle.publisher_caps.specs.declared.Found.the-variants.{At, Nothing}
@@ -31,10 +30,6 @@ RowIn Nothing rows = Unit {0}
 -- the search's answer, a number: no message has a row 1,024
 unfoldable pub foundOf : ℕ → Found
 foundOf n = if eqb n 1_024 then Nothing else At n
-
--- row i is one of the first `rows` and has the key
-unfoldable pub hasKey : List ℕ → (rows i key : ℕ) → Bool
-hasKey m rows i key = ltb i rows && eqb (keyAt m i) key
 
 -- keys with this first word are above those of the rows in front of `low`
 abbrev pub AboveFront : List ℕ → (low first : ℕ) → Type 0

@@ -3,11 +3,11 @@
 ghost use mathlib.Core.Path.{_≡_};
 ghost use Prim.Native.Nat.{_+_, _*_, _/_, _%_, _^_, _≤_, _<_};
 ghost use mathlib.Core.Bool.{true, _&&_};
-ghost use lib.Dec.{ltb};
+ghost use lib.Dec.{ltb, eqb};
 ghost use lib.ListN.{length};
 ghost use Rattle.publisher_caps.specs.Key.{bigEndian, littleEndian, swapped, number, numberOf, orderOf};
 ghost use Rattle.publisher_caps.specs.Message.{timeOf, rowsOf, rowOf, keyAt, keyBefore, firstBefore, ascends, noneZero, messageHolds, Whole};
-ghost use Rattle.publisher_caps.specs.Lookup.{lookup, foundOf, hasKey, AboveFront, BelowRest, Encloses, RowIn, capIn, capOf};
+ghost use Rattle.publisher_caps.specs.Lookup.{lookup, foundOf, AboveFront, BelowRest, Encloses, RowIn, capIn};
 use positions::Key;
 
 // The most rows that a message has.
@@ -224,34 +224,11 @@ pub fn get_cap(m: &[u8], i: usize) -> PublisherCap
     }
 }
 
-// The row of a key among `rows` rows from `from` on, MAX_CAPS for none: a number, so that it comes back in a register. The rows are halved
-// until the key is met or none remain.
-fn search(m: &[u8], from: usize, rows: usize, k0: u64, k1: u64, k2: u64, k3: u64) -> usize
-    requires { ⌜ Whole (now m) × (from + rows ≤ rowsOf (now m)) ⌝ }
-    ensures { λ r. ⌜ foundOf r ≡ lookup (now (m .entry)) (number k0 k1 k2 k3) from rows ⌝ }
+// Whether the key at `at` is this one, four words with the highest first.
+fn has_key(m: &[u8], at: usize, k0: u64, k1: u64, k2: u64, k3: u64) -> bool
+    requires { ⌜ at + 32 ≤ length (now m) ⌝ }
+    ensures { λ r. ⌜ r ≡ eqb (bigEndian (now (m .entry)) at 32) (number k0 k1 k2 k3) ⌝ }
 {
-    if rows == 0 {
-        return MAX_CAPS;
-    }
-    let half = rows / 2;
-    let middle = from + half;
-    let order = compare_row(m, 11 + middle * 40, k0, k1, k2, k3);
-    match order {
-        Order::Less => search(m, from, half, k0, k1, k2, k3),
-        Order::Equal => middle,
-        Order::Greater => search(m, middle + 1, rows - half - 1, k0, k1, k2, k3),
-    }
-}
-
-// Whether row i is there and has this key, four words with the highest first.
-fn has_key(m: &[u8], rows: usize, i: usize, k0: u64, k1: u64, k2: u64, k3: u64) -> bool
-    requires { ⌜ Whole (now m) × (rows ≡ rowsOf (now m)) ⌝ }
-    ensures { λ r. ⌜ r ≡ hasKey (now (m .entry)) rows i (number k0 k1 k2 k3) ⌝ }
-{
-    if rows <= i {
-        return false;
-    }
-    let at = 11 + i * 40;
     let first = be64(m, at);
     if first != k0 {
         return false;
@@ -266,6 +243,30 @@ fn has_key(m: &[u8], rows: usize, i: usize, k0: u64, k1: u64, k2: u64, k3: u64) 
         return false;
     }
     last == k3
+}
+
+// The row of a key among `rows` rows from `from` on, MAX_CAPS for none: a number, so that it comes back in a register. The rows are halved
+// until the key is met or none remain. A reference to the message's is handed on as it came: so the compiler makes a loop of these calls.
+fn search(held: &&[u8], from: usize, rows: usize, k0: u64, k1: u64, k2: u64, k3: u64) -> usize
+    requires { ⌜ Whole (now (now held)) × (from + rows ≤ rowsOf (now (now held))) ⌝ }
+    ensures { λ r. ⌜ foundOf r ≡ lookup (now (now (held .entry))) (number k0 k1 k2 k3) from rows ⌝ }
+{
+    if rows == 0 {
+        return MAX_CAPS;
+    }
+    let m = *held;
+    let half = rows / 2;
+    let middle = from + half;
+    let at = 11 + middle * 40;
+    if has_key(m, at, k0, k1, k2, k3) {
+        return middle;
+    }
+    let order = compare_row(m, at, k0, k1, k2, k3);
+    match order {
+        Order::Less => search(held, from, half, k0, k1, k2, k3),
+        Order::Equal => middle,
+        Order::Greater => search(held, middle + 1, rows - half - 1, k0, k1, k2, k3),
+    }
 }
 
 // True only where keys with this first word are above those of the rows in front of `low`.
@@ -310,8 +311,7 @@ fn encloses(m: &[u8], rows: usize, low: usize, high: usize, first: u64) -> bool
     below_rest(m, rows, high, first)
 }
 
-// The row of a key as `search` gives it. It is looked for in the rows from `low` up to `high`, of which the first one is tried at once, and in
-// all rows where it can stand outside of these.
+// The row of a key among all rows. The search begins with the rows from `low` up to `high` where the key can stand nowhere else, and with all rows otherwise.
 fn search_from(
     m: &[u8],
     rows: usize,
@@ -325,18 +325,14 @@ fn search_from(
     requires { ⌜ Whole (now m) × (rows ≡ rowsOf (now m)) ⌝ }
     ensures { λ r. ⌜ foundOf r ≡ lookup (now (m .entry)) (number k0 k1 k2 k3) 0 rows ⌝ }
 {
-    let here = has_key(m, rows, low, k0, k1, k2, k3);
-    if here {
-        return low;
-    }
     let alone = encloses(m, rows, low, high, k0);
-    if !alone {
-        return search(m, 0, rows, k0, k1, k2, k3);
+    let mut from = 0;
+    let mut count = rows;
+    if alone {
+        from = low;
+        count = high - low;
     }
-    if high <= low + 1 {
-        return MAX_CAPS;
-    }
-    search(m, low, high - low, k0, k1, k2, k3)
+    search(&m, from, count, k0, k1, k2, k3)
 }
 
 // The row of a key in a checked message of `rows` rows. A guess that it stands from `low` up to `high` makes it faster where it is right.
@@ -385,13 +381,4 @@ pub fn cap_in(m: &[u8], found: Found) -> u64
         Found::At(i) => be64(m, 11 + i * 40 + 32),
         Found::Nothing => 0,
     }
-}
-
-// The cap of a key, 0 for one without a row.
-pub fn cap_of(m: &[u8], rows: usize, key: Key) -> u64
-    requires { ⌜ Whole (now m) × (rows ≡ rowsOf (now m)) ⌝ }
-    ensures { λ r. ⌜ r ≡ capOf (now (m .entry)) rows (numberOf key) ⌝ }
-{
-    let found = find(m, rows, 0, rows, key);
-    cap_in(m, found)
 }

@@ -19,6 +19,9 @@ loop-holds c = (omega arith, refl)
 row-part-requires : tie.Need-row-part-requires Inv-loop μ-loop
 row-part-requires c κs = search needs
 
+add-next : tie.Need-add-next Inv-loop μ-loop
+add-next c = search needs
+
 mul-wrapping-add-u16 : tie.Need-mul-wrapping-add-u16 Inv-loop μ-loop
 mul-wrapping-add-u16 c = search needs
 
@@ -57,6 +60,7 @@ count-rows-spec =
     μ-loop
     loop-holds
     row-part-requires
+    add-next
     mul-wrapping-add-u16
     slice-read-wrapping-add-u16
     wrapping-add-u16-requires

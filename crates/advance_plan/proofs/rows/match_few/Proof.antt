@@ -1,4 +1,5 @@
 -- `advance_plan::rows::match_few` meets its contract. Assumes nothing.
+use native.Mathlib.Omega.{arith}
 use borrow.Author.Needs.{needs}
 use Rattle.advance_plan.proofs.rows.match_few.Statement.{statement}
 use Rattle.advance_plan.proofs.rows.match_few.Tie as tie
@@ -13,7 +14,7 @@ match-indexed-requires : tie.Need-match-indexed-requires
 match-indexed-requires c κs =
     let pre = c .before .before .before .before .before .before .pre in
     let parts = c .before .before .parts-for .ensures in
-    (pre .0, pre .1, pre .2, pre .3, pre .4, parts .0, parts .1, parts .2 (pre .5))
+    (pre .0, pre .1, pre .2, pre .3, pre .4, parts .0, omega (arith, parts .1), omega (arith, parts .2 (pre .5)))
 
 same-length : tie.Need-same-length
 same-length c = search needs

@@ -1,5 +1,5 @@
 -- `advance_plan::rows::sum_counts` meets its contract. Assumes nothing.
-use Prim.Native.Nat.{_-_, _≤_}
+use Prim.Native.Nat.{_+_, _-_, _≤_}
 use mathlib.Core.Path.{_≡_, refl}
 use lib.ListN.{length, length-set}
 use native.Mathlib.Omega.{arith}
@@ -8,10 +8,10 @@ use Rattle.advance_plan.proofs.rows.sum_counts.Statement.{statement}
 use Rattle.advance_plan.proofs.rows.sum_counts.Tie as tie
 
 abbrev Inv-loop : tie.InvT-loop
-Inv-loop parts index₀ sum₀ part₀ index sum part = (part ≤ parts) × (length index ≡ length index₀)
+Inv-loop parts index₀ sum₀ part₀ index sum part = (part ≤ parts + 1) × (length index ≡ length index₀)
 
 abbrev μ-loop : tie.MeasureT-loop
-μ-loop parts index₀ sum₀ part₀ index sum part = parts - part
+μ-loop parts index₀ sum₀ part₀ index sum part = parts + 1 - part
 
 loop-holds : tie.Need-loop-holds Inv-loop μ-loop
 loop-holds c = (omega arith, refl)
