@@ -68,6 +68,7 @@ INPUTS = [
     ("a list of a million numbers", [b"image " + b"1," * (MILLION - 1) + b"1\n"], told(f"image WORDS: {WORDS}")),
     ("a list of a million empty items", [b"image " + b"," * MILLION + b"\n"], told(f"image WORDS: {NUMBER}")),
     ("positions of a million numbers", [f"payment 1 {ZEROS} {ZEROS} 0 0 none 0 ".encode() + b"1," * MILLION], told(f"payment POSITIONS: {WORDS}")),
+    ("a position of a million numbers", [b"state 1 " + b"1," * MILLION], told(f"state POSITION: {WORDS}")),
     ("a million fields", [b"new" + b" 1" * MILLION + b"\n"], told(f"new: {MANY}")),
     ("a million fields behind no call", [b"x" + b" 1" * MILLION + b"\n"], told(CALL)),
     ("a million fields in a comment", [b"#" + b" 1" * MILLION + b"\nnonzero\n"], "ok\n"),

@@ -5,6 +5,7 @@ import random
 
 import cases
 import cases_changes
+import cases_state
 import forms
 import journal
 import levels
@@ -17,7 +18,7 @@ MOST = 60_000           # bytes of a right journal, but for one in fifty
 BYTES = b"\0\t\n\r #,-+.09afAFgx\x7f\x80\xc3\xff"
 NUMBERS = [0, 1, 2, 10, 52, 53, 1_024, 1_025, 2**63 - 1, 2**63, 2**64 - 1, 2**64, 2**64 + 1, 10**20 - 1, 10**20, 10**25]
 NO_NUMBERS = [b"-1", b"+1", b"1.", b"0x1", b"1e3", b"x", b"-", b"--", b"none", b"1,", b"\xc2\xb2", b"1\t", b"1\r", b"\0", b"18446744073709551616x", b"1_0"]
-WRONG_LINES = [line.encode() for line, _ in cases.WRONG_LINES + cases_changes.WRONG_LINES if len(line) < 100_000]
+WRONG_LINES = [line.encode() for line, _ in cases.WRONG_LINES + cases_changes.WRONG_LINES + cases_state.WRONG_LINES if len(line) < 100_000]
 NAMES = b"pool three none odd long folder missing other pool.new a \xff\xfe . .. x\0y".split() + [b"n" * 251, b"n" * 252, b"n" * 256]
 
 
@@ -77,10 +78,17 @@ class Damage:
             items[self.r.choice([0, -1, self.r.randrange(len(items))])] = self.r.choice([b"", b"", b"-", b"x", self.number()])
         return b",".join(items) or b"-"
 
+    def position(self):
+        """Nine words that come close to a position's."""
+        words = [self.r.choice([0, 1, 2, 2, 2, 3]), *self.r.choices(NUMBERS[:11], k=2), self.r.choice([0, 1, 1, 2]), *self.r.choices(NUMBERS[:11], k=5)]
+        return ",".join(map(str, words)).encode()
+
     def field(self, name):
         """One for a field of this name, right or not."""
         if self.r.random() > self.care + .2:
             name = self.r.choice(["P", "CAPS", "STATE", "PATH", "ACCOUNT", "POSITIONS"])
+        if name == "POSITION" and self.r.random() < .7:
+            return self.position()
         if name in forms.POSITIONS:
             return self.list(POSITIONS_ROOM)
         if name == "WORDS":
@@ -152,6 +160,7 @@ class Damage:
             lambda: b"image " + b",".join([b"7"] * (ROOM + more)),
             lambda: b"remove 1 " + b" ".join([self.digits(64), self.digits(64), b"1", self.field("STATE")]),
             lambda: b"image " + self.long_field(),
+            lambda: b" ".join([b"state", self.number(), self.position()]),
             self.long_field,
         ])()
 

@@ -7,6 +7,7 @@ import random
 
 import model
 from model import HALF, WORD, Advance
+from states import States
 
 EDGES = [0, 1, 2, HALF - 1, HALF, HALF + 1, WORD - 2, WORD - 1]
 SCALES = [10, 1_000, 10**6, 10**9, 10**9, 10**12, 10**12, 2**40, 2**50, 2**56, 2**61, HALF]
@@ -64,6 +65,7 @@ class Generator:
         self.journal, self.site = journal, journal.site
         self.r = random.Random(f"{seed} {p} {e} {seconds} {unlocking}")
         self.tables = random.Random(f"{seed} {p} {e} {seconds} {unlocking} show")
+        self.states = States(journal, f"{seed} {p} {e} {seconds} {unlocking}", unlocking)
         self.p, self.e, self.seconds, self.unlocking = p, e, seconds, unlocking
         self.most_now = (HALF - 1) // seconds if seconds else HALF - 1
         self.keys = keys(self.r, p + 4)

@@ -18,8 +18,8 @@ LISTED = "the model: listed"        # a difference that docs/DIFFERENCES.md list
 APART = "the model: behind those"   # the image after one of the two, before both have the same again
 WRONG = "the journal's forms"       # a wrong line; the oracle's wording is its own behind the colon
 
-# The calls that can be refused, and the level that each came with.
-CALLS = {"fresh": "watch", "advance": "watch", "forecast": "watch", "payment": "pay", **dict.fromkeys(operations.NAMES, "operate")}
+# The calls that can be refused, and the level that each came with. A position's state is asked of no pool; it came with `remove`, which takes it.
+CALLS = {"fresh": "watch", "advance": "watch", "forecast": "watch", "payment": "pay", **dict.fromkeys(operations.NAMES, "operate"), "state": "operate"}
 
 
 class Line(NamedTuple):
@@ -36,7 +36,8 @@ class Journal:
     def __init__(self):
         self.site = model.Site()
         self.lines = []
-        self.calls = 0          # lines that can be refused
+        self.calls = 0          # lines of a pool that can be refused
+        self.states = 0         # of none: these come on top of the calls that a journal is to have
         self.apart = False
 
     def comment(self, text):
@@ -60,12 +61,14 @@ class Journal:
     def say(self, text):
         """One more line; answers what the model answers. A call finds the same image on both sides."""
         name, *fields = text.split(" ", 1)
-        if self.apart and name in CALLS:
+        of_pool = name in CALLS and name != "state"
+        if self.apart and of_pool:
             self.put(self.site.words)
         if name == "new" or (name == "image" and fields):
             self.apart = False
         answer = self.site.answer(text)
-        self.calls += name in CALLS
+        self.calls += of_pool
+        self.states += name == "state"
         decides = self.decides(name, answer)
         wanted = self.wanted(answer, decides)
         self.lines.append(Line(text, answer, decides, wanted))

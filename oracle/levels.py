@@ -15,10 +15,13 @@ LEVELS = {
 }
 
 
-def write(journal, level, seed, size, settings, calls, long=True):
-    """A journal of at least so many calls on pools of one size, under one epoch length and unlocking length; at will without long lists."""
+def write(journal, level, seed, size, settings, calls, long=True, states=True):
+    """A journal of at least so many calls on pools of one size, under one epoch length and unlocking length; at will without long lists. Between the lists,
+    at every level and at will not, positions' states: they need no pool, and so none of a level's calls."""
     kind, lists = LEVELS[level]
     generator = kind(journal, seed, *size, *settings)
     weights, lists = zip(*(pair for pair in lists if long or pair[1] is not Stakers.staking_list))
     while journal.calls < calls:
         generator.r.choices(lists, weights)[0](generator)
+        if states:
+            generator.states.some()

@@ -1,5 +1,5 @@
-"""Document 01's calls on whole numbers, and the journal's lines around them: fresh, advance, forecast and payment; the changes of item 9
-are operations.py's, the image is image.py's.
+"""Document 01's calls on whole numbers, and the journal's lines around them: fresh, advance, forecast, payment and a position's state; the
+changes of item 9 are operations.py's, the image is image.py's.
 
 Written from document 01's words. It answers where the Rust can't be asked (checks 1 to 5, very many
 passed epochs), and is compared with the Rust wherever that can be asked. Where docs/DIFFERENCES.md lists
@@ -304,6 +304,13 @@ class Site:
         self.words = [p.now, pool.words[1] - sum(both)] + pool.words[2:]
         return [*both, p.now, p.next_index, reads]
 
+    def state(self, epoch, words):
+        """Item 6 of one position, and of no pool: refusals 4, for an empty one too, and 13."""
+        refuse(4, len(words) != 9)
+        position = positions_of(words)[0]
+        refuse(4, position.kind == 0)
+        return [state(position, epoch, self.unlocking)]
+
     def change(self, name, x):
         """One of item 9's changes."""
         self.words, answer = operations.asked(self.pool().checked(), name, x)
@@ -320,6 +327,8 @@ class Site:
             return getattr(self, name)(Advance(*map(int, numbers), message, self.seconds))
         if name == "payment":
             return self.payment(payment_of(fields, self.unlocking))
+        if name == "state":
+            return self.state(int(fields[0]), numbers_of(fields[1]))
         if name in operations.NAMES:
             return self.change(name, operations.given(name, fields))
         if name == "nonzero":

@@ -7,6 +7,7 @@ import copy
 
 import model
 import operations
+import states
 from changes import Changes
 from demand3 import DEPOSIT, END, MEANT, START
 from generate import message, with_time
@@ -202,12 +203,12 @@ class Stakers(Changes):
             staker.stakes.append(Stake(publisher, amount, self.last() + 1))
 
     def unstake(self):
-        """A position or a part of it, in the state it is in."""
+        """A position or a part of it, in the state it is in, which is asked for."""
         staker = self.r.choice(self.town)
         if not staker.stakes:
             return
         stake = self.r.choice(staker.stakes)
-        state = stake.state(self.last(), self.unlocking)
+        state = self.journal.say(states.line(self.last(), stake.words())).split()[1]
         if state == "LOCKED" and self.unlocking >= HALF:
             return      # its end would not fit
         amount = stake.amount if self.r.random() < .7 else self.some(stake.amount)

@@ -86,7 +86,8 @@ pub fn caps(message: &[u8], verified: u64) -> Held<PublisherCaps> {
     RefCell::new(c)
 }
 
-fn position(w: &[u64]) -> Option<Position> {
+/// Nine words that document 01's check 4 has passed; none for an empty position.
+pub fn position(w: &[u64]) -> Option<Position> {
     let mut key = [0u8; 32];
     for (bytes, word) in key.chunks_exact_mut(8).zip(&w[5..]) {
         bytes.copy_from_slice(&word.to_le_bytes());

@@ -2,7 +2,7 @@
 //! every one after a space.
 use {
     crate::{
-        accounts::{caps, context, positions, set_now, Held},
+        accounts::{caps, context, position, positions, set_now, Held},
         derived,
         handed::{self, Pool},
         journal::{Advance, Call, Change, Payment, SetStakeAccount, Slash},
@@ -125,6 +125,12 @@ fn stake_account(pool: &Pool, s: &SetStakeAccount) -> Asked<String> {
     Ok(String::new())
 }
 
+/// Position::get_current_position, of a position that is none of the pool's.
+fn state(epoch: u64, words: &[u64]) -> Asked<String> {
+    let p = position(words).expect("checks.rs lets no empty position pass");
+    guard(|| p.get_current_position(epoch).map(|s| format!(" {s}")))
+}
+
 /// Asks the Rust; what is left of the pool after a refusal or a forecast is the caller's to undo.
 pub fn ask(pool: &Pool, call: &Call) -> Asked<String> {
     match call {
@@ -140,5 +146,6 @@ pub fn ask(pool: &Pool, call: &Call) -> Asked<String> {
         Call::Slash(s) => slash(pool, s),
         Call::Fee(f) => fee(pool, *f),
         Call::StakeAccount(s) => stake_account(pool, s),
+        Call::State { epoch, position } => state(*epoch, position),
     }
 }

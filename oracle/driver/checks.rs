@@ -42,6 +42,11 @@ fn positions(words: &[u64]) -> bool {
         && nines.into_iter().all(|w| w[0] == 0 || (w[0] <= 2 && w[3] <= 1))
 }
 
+/// Check 4 of one position; an empty one has no state.
+fn one_position(words: &[u64]) -> bool {
+    words.len() == 9 && words[0] != 0 && positions(words)
+}
+
 /// Whether the Rust would have to step over too many epochs: only where it gets that far.
 fn too_far(p: &PoolData, a: &Advance) -> bool {
     a.now.saturating_sub(p.last_updated_epoch) > MOST_EPOCHS
@@ -60,6 +65,10 @@ fn stake_accounts(s: &SetStakeAccount) -> bool {
 
 /// Whether the call passes those of checks 1 to 5 that it makes.
 pub fn pass(site: &Site, call: &Call) -> bool {
+    // asked of no pool
+    if let Call::State { position, .. } = call {
+        return one_position(position);
+    }
     let Some(held) = site.pool() else {
         return false;
     };

@@ -76,6 +76,8 @@ pub enum Call {
     Slash(Slash),
     Fee(u64),
     StakeAccount(SetStakeAccount),
+    /// A position's state, of no pool.
+    State { epoch: u64, position: Vec<u64> },
 }
 
 fn hex(digits: &[u8]) -> Option<Vec<u8>> {
@@ -269,6 +271,13 @@ impl<'a> Fields<'a> {
         })
     }
 
+    fn state_of(&mut self) -> Read<Call> {
+        Ok(Call::State {
+            epoch:    self.number()?,
+            position: self.positions()?,
+        })
+    }
+
     /// A call of document 01, its name read before.
     pub fn call(&mut self, name: &[u8]) -> Read<Call> {
         let call = match name {
@@ -282,6 +291,7 @@ impl<'a> Fields<'a> {
             b"slash" => Call::Slash(self.slash()?),
             b"fee" => Call::Fee(self.number()?),
             b"stake-account" => Call::StakeAccount(self.set_stake_account()?),
+            b"state" => self.state_of()?,
             _ => return Err("an unknown call"),
         };
         self.end()?;
