@@ -1,4 +1,4 @@
-/* Bad input for each of the ten functions. A case is a good input with one fault and the number that must be returned; it is tried alone, and with
+/* Bad input for each of the eleven functions. A case is a good input with one fault and the number that must be returned; it is tried alone, and with
  * all faults that stand behind it in the order of the refusals. Each time every word of the input, pool, record and answer included, must be as it was.
  * Then input at the limits, which is accepted. The numbers of the cases are the same in clients/rust/bad_input.rs. */
 #include "pool_mirror.h"
@@ -8,8 +8,9 @@
 #include <stdlib.h>
 #include <string.h>
 
-enum function { FRESH, ADVANCE, FORECAST, PAYMENT, ADD, REMOVE, CREATE_SLASH_EVENT, SLASH, FEE, STAKE_ACCOUNT, FUNCTIONS };
-static const char *const NAMES[] = {"fresh", "advance", "forecast", "payment", "add", "remove", "create_slash_event", "slash", "fee", "stake_account"};
+enum function { FRESH, ADVANCE, FORECAST, PAYMENT, ADD, REMOVE, POSITION_STATE, CREATE_SLASH_EVENT, SLASH, FEE, STAKE_ACCOUNT, FUNCTIONS };
+static const char *const NAMES[] = {"fresh", "advance", "forecast", "payment", "add", "remove", "position_state", "create_slash_event", "slash", "fee",
+                                    "stake_account"};
 
 #define HALF ((uint64_t)1 << 63)
 #define MAX UINT64_MAX
@@ -91,7 +92,8 @@ static void good(enum function f, struct input *in) {
     set_key(in->publisher, A), set_key(in->account, STAKER);
     in->record[0] = f == SLASH ? 20 : 18, in->record[1] = 3;
     in->has_publisher_account = 1, set_key(in->publisher_account, OWN_KEY), in->custody_flag = 1;
-    set_position(in->positions, 0, 2, 100000, 0, 0, A), set_position(in->positions, 1, 0, MAX, MAX, MAX, junk), in->positions_len = 18;
+    set_position(in->positions, 0, 2, 100000, 0, 0, A), set_position(in->positions, 1, 0, MAX, MAX, MAX, junk);
+    in->positions_len = f == POSITION_STATE ? 9 : 18;
     in->unlocking = 1, in->amount = 5, in->state = POOL_MIRROR_LOCKED;
     in->index = 3, in->event_epoch = 20, in->locked = 10, in->preunlocking = 5, in->fee = 50000;
     set_key(in->signer, OWNER), set_key(in->authority, AUTHORITY);
@@ -114,6 +116,7 @@ static uint64_t call(enum function f, struct input *in) {
                                              in->custody_flag, in->positions, in->positions_len, in->unlocking, in->answer);
     case ADD: return pool_mirror_add(pool, len, p, e, in->now, in->publisher, in->account, in->amount);
     case REMOVE: return pool_mirror_remove(pool, len, p, e, in->now, in->publisher, in->account, in->amount, in->state);
+    case POSITION_STATE: return pool_mirror_position_state(in->now, in->positions, in->positions_len, in->unlocking, in->answer);
     case CREATE_SLASH_EVENT: return pool_mirror_create_slash_event(pool, len, p, e, in->now, in->publisher, in->index, in->answer);
     case SLASH: return pool_mirror_slash(pool, len, p, e, in->now, in->publisher, in->account, in->record, in->index, in->event_epoch, in->locked, in->preunlocking);
     case FEE: return pool_mirror_fee(pool, len, p, e, in->fee);
@@ -264,6 +267,31 @@ static uint64_t remove_fault(struct input *in, int k) {
     }
 }
 
+/* A start of unlocking for the first position, which is active from epoch 10 on. */
+static void set_unlocking(struct input *in, uint64_t start, uint64_t unlocking) {
+    in->positions[3] = 1, in->positions[4] = start, in->unlocking = unlocking;
+}
+
+static uint64_t position_state_fault(struct input *in, int k) {
+    switch (k) {
+    case 0: in->positions_len = 0; return 4;
+    case 1: in->positions_len = 8; return 4;
+    case 2: in->positions_len = 10; return 4;
+    case 3: in->positions_len = 18; return 4;
+    case 4: in->positions_len = 2313; return 4;
+    case 5: in->positions[0] = 3; return 4;
+    case 6: in->positions[0] = MAX; return 4;
+    case 7: in->positions[3] = 2; return 4;
+    case 8: in->positions[0] = 1, in->positions[3] = MAX; return 4;
+    case 9: in->positions[0] = 0; return 4;
+    case 10: set_unlocking(in, MAX, 1); return 13;
+    case 11: set_unlocking(in, MAX, 1), in->now = 10; return 13;
+    case 12: set_unlocking(in, HALF, HALF); return 13;
+    case 13: set_unlocking(in, 1, MAX); return 13;
+    default: return 0;
+    }
+}
+
 static uint64_t create_slash_event_fault(struct input *in, int k) {
     if (k < IMAGE) return image_fault(in, k);
     switch (k - IMAGE) {
@@ -338,6 +366,7 @@ static uint64_t fault(enum function f, struct input *in, int k) {
     case PAYMENT: return payment_fault(in, k);
     case ADD: return add_fault(in, k);
     case REMOVE: return remove_fault(in, k);
+    case POSITION_STATE: return position_state_fault(in, k);
     case CREATE_SLASH_EVENT: return create_slash_event_fault(in, k);
     case SLASH: return slash_fault(in, k);
     case FEE: return fee_fault(in, k);
@@ -350,7 +379,7 @@ static struct input in, before;
 
 /* The call returns this number. A refused call writes nothing, an accepted one only pool, record and answer. */
 static void expect(enum function f, int k, const char *what, uint64_t number) {
-    static const size_t answers[FUNCTIONS] = {0, 5, 1, 4, 0, 0, 1, 0, 0, 0};
+    static const size_t answers[FUNCTIONS] = {0, 5, 1, 4, 0, 0, 1, 1, 0, 0, 0};
     memcpy(&before, &in, sizeof in);
     uint64_t got = call(f, &in);
     if (got != number) {
@@ -358,7 +387,7 @@ static void expect(enum function f, int k, const char *what, uint64_t number) {
         exit(1);
     }
     if (number == 0) {
-        memcpy(before.pool, in.pool, f == FORECAST ? 0 : in.pool_len * sizeof *in.pool);
+        memcpy(before.pool, in.pool, f == FORECAST || f == POSITION_STATE ? 0 : in.pool_len * sizeof *in.pool);
         memcpy(before.record, in.record, f == PAYMENT || f == SLASH ? sizeof in.record : 0);
         memcpy(before.answer, in.answer, answers[f] * sizeof *in.answer);
     }
@@ -401,6 +430,29 @@ static unsigned accepted;
 static void limit(enum function f, const char *what) {
     expect(f, -1, what, 0);
     accepted++;
+}
+
+/* Every state of a position, with ends of unlocking at the limits. */
+static void states(void) {
+    static const struct {
+        uint64_t epoch, flag, start, unlocking, state;
+    } cases[] = {
+        {9, 1, MAX, 1, POOL_MIRROR_LOCKING}, /* the end is not looked at */
+        {10, 0, MAX, 1, POOL_MIRROR_LOCKED}, /* nor the start */
+        {MAX - 2, 1, MAX - 1, 1, POOL_MIRROR_PREUNLOCKING},
+        {MAX - 1, 1, MAX - 1, 1, POOL_MIRROR_UNLOCKING},
+        {MAX, 1, MAX - 1, 1, POOL_MIRROR_UNLOCKED},
+        {MAX - 1, 1, 0, MAX, POOL_MIRROR_UNLOCKING},
+        {MAX, 1, MAX, 0, POOL_MIRROR_UNLOCKED},
+    };
+    for (size_t i = 0; i < LEN(cases); i++) {
+        good(POSITION_STATE, &in), in.now = cases[i].epoch, set_unlocking(&in, cases[i].start, cases[i].unlocking), in.positions[3] = cases[i].flag;
+        limit(POSITION_STATE, "a state");
+        if (in.answer[0] != cases[i].state) {
+            printf("state %u: %" PRIu64 " and not %" PRIu64 "\n", (unsigned)i, in.answer[0], cases[i].state);
+            exit(1);
+        }
+    }
 }
 
 /* Input at the limits. */
@@ -451,7 +503,8 @@ int main(void) {
         tried += refusals((enum function)f);
     }
     limits();
+    states();
     printf("at the limits       %3u accepted\n", accepted);
-    printf("bad_input: 10 functions, %u refusals, every word as it was\n", tried);
+    printf("bad_input: 11 functions, %u refusals, every word as it was\n", tried);
     return 0;
 }

@@ -33,6 +33,9 @@ struct book {
 #define ANSWER(...) snprintf(b->answer, sizeof b->answer, __VA_ARGS__)
 #define N "%" PRIu64
 
+/* Names by the numbers of enum pool_mirror_state. */
+static const char *const STATES[] = {"UNLOCKED", "LOCKING", "LOCKED", "PREUNLOCKING", "UNLOCKING"};
+
 /* The four words of an absent account: not looked at, but a pointer must be given. */
 static const uint64_t NONE[4];
 
@@ -165,10 +168,22 @@ static void add(struct book *b, const struct named *publisher, const struct name
     plain(b, pool_mirror_add(b->pool, LEN, P, E, b->now, publisher->key, account->key, amount));
 }
 
-/* stdio.h has a `remove`. */
-static void take(struct book *b, const struct named *publisher, const struct named *account, uint64_t amount, enum pool_mirror_state state) {
-    CALL("remove %s %s " N " %s", publisher->name, account->name, amount, state == POOL_MIRROR_LOCKED ? "LOCKED" : "UNLOCKED");
-    plain(b, pool_mirror_remove(b->pool, LEN, P, E, b->now, publisher->key, account->key, amount, state));
+/* The state of one position of a list in the current epoch. */
+static uint64_t state(struct book *b, const struct named *publisher, const struct named *account, const uint64_t *position) {
+    uint64_t answer[1];
+    CALL("state %s %s " N, publisher->name, account->name, position[1]);
+    accepted(b, pool_mirror_position_state(b->now, position, POOL_MIRROR_POSITION_LEN, UNLOCKING, answer));
+    check(b, answer[0] < sizeof STATES / sizeof *STATES, "no state has this number");
+    ANSWER("%s", STATES[answer[0]]);
+    entry(b);
+    return answer[0];
+}
+
+/* A position or a part of it is taken back, in the state that it is in. stdio.h has a `remove`. */
+static void take(struct book *b, const struct named *publisher, const struct named *account, uint64_t amount, const uint64_t *position) {
+    uint64_t its = state(b, publisher, account, position);
+    CALL("remove %s %s " N " %s", publisher->name, account->name, amount, STATES[its]);
+    plain(b, pool_mirror_remove(b->pool, LEN, P, E, b->now, publisher->key, account->key, amount, its));
 }
 
 /* The publisher's first slash event, number 0, and what it takes from an account. */
@@ -254,7 +269,7 @@ int main(void) {
     payment(&book, a, &own, &eve, eve_a, &eves);
 
     /* eve takes a third back; then a tenth of all stake with A is slashed. */
-    take(&book, a, &eve, 100000, POOL_MIRROR_LOCKED);
+    take(&book, a, &eve, 100000, eves.words);
     slash_event(&book, a);
     slash(&book, a, &sam, sam_a, 50000, 0);
     slash(&book, a, &eve, eve_a, 20000, 10000);
@@ -272,7 +287,7 @@ int main(void) {
     /* A third publisher takes a seat. What eve took back earned nothing in epoch 105, and is free now. */
     advance(&book, 106, p, caps, 3);
     payment(&book, a, &own, &eve, eve_a, &eves);
-    take(&book, a, &eve, 90000, POOL_MIRROR_UNLOCKED);
+    take(&book, a, &eve, 90000, eves.words + POOL_MIRROR_POSITION_LEN);
     seats(&book, p, 3);
     printf("\nledger: %u entries, every check held\n", book.entries);
     return 0;

@@ -1,22 +1,23 @@
-//! Bad input for each of the ten functions. A case is a good input with one fault and the number that must be returned; it is tried alone, and with
+//! Bad input for each of the eleven functions. A case is a good input with one fault and the number that must be returned; it is tried alone, and with
 //! all faults that stand behind it in the order of the refusals. Each time every word of the input, pool and record included, must be as it was (the
 //! answer's are compared in pool_mirror.rs). Then input at the limits, which is accepted. The numbers of the cases are the same in clients/c/bad_input.c.
 mod pool_mirror;
 
-use pool_mirror::{image_len, Account, Given, Key, Pool, LOCKED, UNLOCKED};
+use pool_mirror::{image_len, position_state, state_name, Account, Given, Key, Pool, LOCKED, LOCKING, PREUNLOCKING, UNLOCKED, UNLOCKING};
 
-const NAMES: [&str; 10] =
-    ["fresh", "advance", "forecast", "payment", "add", "remove", "create_slash_event", "slash", "fee", "stake_account"];
+const NAMES: [&str; 11] =
+    ["fresh", "advance", "forecast", "payment", "add", "remove", "position_state", "create_slash_event", "slash", "fee", "stake_account"];
 const FRESH: usize = 0;
 const ADVANCE: usize = 1;
 const FORECAST: usize = 2;
 const PAYMENT: usize = 3;
 const ADD: usize = 4;
 const REMOVE: usize = 5;
-const CREATE_SLASH_EVENT: usize = 6;
-const SLASH: usize = 7;
-const FEE: usize = 8;
-const STAKE_ACCOUNT: usize = 9;
+const POSITION_STATE: usize = 6;
+const CREATE_SLASH_EVENT: usize = 7;
+const SLASH: usize = 8;
+const FEE: usize = 9;
+const STAKE_ACCOUNT: usize = 10;
 
 const HALF: u64 = 1 << 63;
 const MAX: u64 = u64::MAX;
@@ -141,7 +142,7 @@ fn good(f: usize) -> Input {
         publisher_account: Some(OWN_KEY),
         custody_flag: 1,
         positions: vec![0; 2_313],
-        positions_len: 18,
+        positions_len: if f == POSITION_STATE { 9 } else { 18 },
         unlocking: 1,
         amount: 5,
         state: LOCKED,
@@ -199,6 +200,7 @@ fn call(f: usize, i: &mut Input) -> u64 {
         }
         ADD => number(pool.add(i.now, &i.publisher, &i.account, i.amount)),
         REMOVE => number(pool.remove(i.now, &i.publisher, &i.account, i.amount, i.state)),
+        POSITION_STATE => number(position_state(i.now, &i.positions[..i.positions_len], i.unlocking)),
         CREATE_SLASH_EVENT => number(pool.create_slash_event(i.now, &i.publisher, i.index)),
         SLASH => {
             number(pool.slash(i.now, &i.publisher, &i.account, &mut i.record, i.index, i.event_epoch, i.locked, i.preunlocking))
@@ -361,12 +363,37 @@ fn remove_fault(i: &mut Input, k: usize) -> u64 {
     match k - IMAGE - UP_TO_DATE {
         0 => { i.amount = MAX; i.state = UNLOCKED; 13 }
         1 => { i.amount = HALF; 13 }
-        2 => { i.state = 3; 15 }
-        3 => { i.state = 4; 15 }
+        2 => { i.state = PREUNLOCKING; 15 }
+        3 => { i.state = UNLOCKING; 15 }
         4 => { i.state = 5; 15 }
         5 => { i.state = MAX; 15 }
         6 => { i.pool[OTHERS + 1] = HALF; i.state = LOCKED; 13 }
-        7 => { i.pool[OTHERS + 1] = HALF + 4; i.state = 1; 13 }
+        7 => { i.pool[OTHERS + 1] = HALF + 4; i.state = LOCKING; 13 }
+        _ => 0,
+    }
+}
+
+/// A start of unlocking for the first position, which is active from epoch 10 on.
+fn set_unlocking(i: &mut Input, start: u64, unlocking: u64) {
+    (i.positions[3], i.positions[4], i.unlocking) = (1, start, unlocking);
+}
+
+fn position_state_fault(i: &mut Input, k: usize) -> u64 {
+    match k {
+        0 => { i.positions_len = 0; 4 }
+        1 => { i.positions_len = 8; 4 }
+        2 => { i.positions_len = 10; 4 }
+        3 => { i.positions_len = 18; 4 }
+        4 => { i.positions_len = 2_313; 4 }
+        5 => { i.positions[0] = 3; 4 }
+        6 => { i.positions[0] = MAX; 4 }
+        7 => { i.positions[3] = 2; 4 }
+        8 => { i.positions[0] = 1; i.positions[3] = MAX; 4 }
+        9 => { i.positions[0] = 0; 4 }
+        10 => { set_unlocking(i, MAX, 1); 13 }
+        11 => { set_unlocking(i, MAX, 1); i.now = 10; 13 }
+        12 => { set_unlocking(i, HALF, HALF); 13 }
+        13 => { set_unlocking(i, 1, MAX); 13 }
         _ => 0,
     }
 }
@@ -458,6 +485,7 @@ fn fault(f: usize, i: &mut Input, k: usize) -> u64 {
         PAYMENT => payment_fault(i, k),
         ADD => add_fault(i, k),
         REMOVE => remove_fault(i, k),
+        POSITION_STATE => position_state_fault(i, k),
         CREATE_SLASH_EVENT => create_slash_event_fault(i, k),
         SLASH => slash_fault(i, k),
         FEE => fee_fault(i, k),
@@ -477,7 +505,7 @@ fn expect(f: usize, mut i: Input, case: &str, number: u64) {
     if got != number {
         fail(format!("{}, {}: {} and not {}", NAMES[f], case, got, number));
     }
-    if number == 0 && f != FORECAST {
+    if number == 0 && f != FORECAST && f != POSITION_STATE {
         before.pool[..i.pool_len].copy_from_slice(&i.pool[..i.pool_len]);
     }
     if number == 0 && (f == PAYMENT || f == SLASH) {
@@ -510,6 +538,31 @@ fn refusals(f: usize) -> usize {
     2 * faults
 }
 
+/// Every state of a position, with ends of unlocking at the limits: how many.
+fn states() -> usize {
+    // Epoch, flag, start, unlocking.
+    let cases = [
+        ([9, 1, MAX, 1], LOCKING), // the end is not looked at
+        ([10, 0, MAX, 1], LOCKED), // nor the start
+        ([MAX - 2, 1, MAX - 1, 1], PREUNLOCKING),
+        ([MAX - 1, 1, MAX - 1, 1], UNLOCKING),
+        ([MAX, 1, MAX - 1, 1], UNLOCKED),
+        ([MAX - 1, 1, 0, MAX], UNLOCKING),
+        ([MAX, 1, MAX, 0], UNLOCKED),
+    ];
+    for ([epoch, flag, start, unlocking], state) in cases {
+        let mut i = good(POSITION_STATE);
+        set_unlocking(&mut i, start, unlocking);
+        (i.now, i.positions[3]) = (epoch, flag);
+        let got = position_state(i.now, &i.positions[..i.positions_len], i.unlocking);
+        if got != Ok([state]) {
+            fail(format!("a state: {got:?} and not {}", state_name(state)));
+        }
+        expect(POSITION_STATE, i, "a state", 0);
+    }
+    cases.len()
+}
+
 /// Input at the limits: how many were accepted.
 fn limits() -> usize {
     let mut accepted = 0;
@@ -531,7 +584,7 @@ fn limits() -> usize {
     limit(PAYMENT, "no account", &|i| { i.publisher = B; i.publisher_account = None; i.custody_flag = 0 });
     limit(ADD, "highest change", &|i| i.pool[OTHERS + 1] = HALF - 6);
     limit(REMOVE, "lowest change", &|i| i.pool[OTHERS + 1] = HALF + 5);
-    limit(REMOVE, "LOCKING", &|i| i.state = 1);
+    limit(REMOVE, "LOCKING", &|i| i.state = LOCKING);
     limit(REMOVE, "UNLOCKED", &|i| { i.state = UNLOCKED; i.pool[OTHERS + 1] = HALF });
     limit(CREATE_SLASH_EVENT, "index", &|i| { i.pool[SLASHES] = MAX - 1; i.index = MAX - 1 });
     limit(SLASH, "all of the total", &|i| i.locked = 999_995);
@@ -565,6 +618,6 @@ fn limits() -> usize {
 
 fn main() {
     let tried: usize = (0..NAMES.len()).map(refusals).sum();
-    println!("{:<19} {:3} accepted", "at the limits", limits());
-    println!("bad_input: 10 functions, {tried} refusals, every word as it was");
+    println!("{:<19} {:3} accepted", "at the limits", limits() + states());
+    println!("bad_input: 11 functions, {tried} refusals, every word as it was");
 }

@@ -2,7 +2,7 @@
 //! Ends with status 1 and a message where a call is refused or a check does not hold.
 mod pool_mirror;
 
-use pool_mirror::{image_len, Account, Given, Key, Pool, LOCKED, UNLOCKED};
+use pool_mirror::{image_len, position_state, state_name, Account, Given, Key, Pool};
 
 const P: usize = 4;
 const E: usize = 4;
@@ -144,10 +144,18 @@ impl Book {
         self.plain(answer);
     }
 
-    fn remove(&mut self, publisher: &Named, account: &Named, amount: u64, state: u64) {
-        let now = self.now;
-        let spelled = if state == LOCKED { "LOCKED" } else { "UNLOCKED" };
-        self.call = format!("remove {} {} {} {}", publisher.name, account.name, amount, spelled);
+    /// The state of one position of a list in the current epoch.
+    fn state(&mut self, publisher: &Named, account: &Named, position: &[u64; 9]) -> u64 {
+        self.call = format!("state {} {} {}", publisher.name, account.name, position[1]);
+        let [state] = self.accepted(position_state(self.now, position, UNLOCKING));
+        self.entry(state_name(state));
+        state
+    }
+
+    /// A position or a part of it is taken back, in the state that it is in.
+    fn remove(&mut self, publisher: &Named, account: &Named, amount: u64, position: &[u64; 9]) {
+        let (now, state) = (self.now, self.state(publisher, account, position));
+        self.call = format!("remove {} {} {} {}", publisher.name, account.name, amount, state_name(state));
         let answer = self.pool().remove(now, &publisher.key, &account.key, amount, state);
         self.plain(answer);
     }
@@ -240,7 +248,7 @@ fn main() {
     book.payment(a, Some(&own), &eve, &mut eve_a, &eves);
 
     // eve takes a third back; then a tenth of all stake with A is slashed.
-    book.remove(a, &eve, 100_000, LOCKED);
+    book.remove(a, &eve, 100_000, &eves[0]);
     book.slash_event(a);
     book.slash(a, &sam, &mut sam_a, 50_000, 0);
     book.slash(a, &eve, &mut eve_a, 20_000, 10_000);
@@ -255,7 +263,7 @@ fn main() {
     // A third publisher takes a seat. What eve took back earned nothing in epoch 105, and is free now.
     book.advance(106, &p, &caps);
     book.payment(a, Some(&own), &eve, &mut eve_a, &eves);
-    book.remove(a, &eve, 90_000, UNLOCKED);
+    book.remove(a, &eve, 90_000, &eves[1]);
     book.seats(&p);
     println!("\nledger: {} entries, every check held", book.entries);
 }

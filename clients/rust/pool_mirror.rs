@@ -8,8 +8,23 @@ pub type Key = [u64; 4];
 /// A call's answer, or the refusal's number, 1 to 27.
 pub type Answer<const N: usize> = Result<[u64; N], u64>;
 
+/// The states of a position.
 pub const UNLOCKED: u64 = 0;
+pub const LOCKING: u64 = 1;
 pub const LOCKED: u64 = 2;
+pub const PREUNLOCKING: u64 = 3;
+pub const UNLOCKING: u64 = 4;
+
+pub fn state_name(state: u64) -> &'static str {
+    match state {
+        UNLOCKED => "UNLOCKED",
+        LOCKING => "LOCKING",
+        LOCKED => "LOCKED",
+        PREUNLOCKING => "PREUNLOCKING",
+        UNLOCKING => "UNLOCKING",
+        _ => "no state",
+    }
+}
 
 /// The length of an image with p seats and e events.
 pub const fn image_len(p: usize, e: usize) -> usize {
@@ -65,6 +80,9 @@ mod raw {
             pool: *mut u64, pool_len: usize, p: usize, e: usize, current_epoch: u64, publisher: *const [u64; 4], account: *const [u64; 4], amount: u64,
             state: u64,
         ) -> u64;
+        pub fn pool_mirror_position_state(
+            epoch: u64, position: *const u64, position_len: usize, unlocking_duration: u64, answer: *mut [u64; 1],
+        ) -> u64;
         pub fn pool_mirror_create_slash_event(
             pool: *mut u64, pool_len: usize, p: usize, e: usize, current_epoch: u64, publisher: *const [u64; 4], index: u64, answer: *mut [u64; 1],
         ) -> u64;
@@ -98,6 +116,13 @@ fn done(number: u64) -> Result<(), u64> {
     } else {
         Err(number)
     }
+}
+
+/// The state of one position, which is what `remove` takes. Of no pool.
+pub fn position_state(epoch: u64, position: &[u64], unlocking_duration: u64) -> Answer<1> {
+    let mut answer = [BEFORE; 1];
+    let number = unsafe { raw::pool_mirror_position_state(epoch, position.as_ptr(), position.len(), unlocking_duration, &mut answer) };
+    answered(number, answer)
 }
 
 impl Pool<'_> {
