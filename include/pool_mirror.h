@@ -90,7 +90,7 @@ enum pool_mirror_refusal {
     POOL_MIRROR_INVALID_IMAGE = 1,                               /* pool_len, p, e, or n at 2^63 and above */
     POOL_MIRROR_INVALID_EPOCH = 2,                               /* an epoch of 0 seconds; fresh at epoch 0 */
     POOL_MIRROR_INVALID_PUBLISHER_CAPS = 3,                      /* the caps message: length, number of rows, order of keys, a zero key */
-    POOL_MIRROR_INVALID_POSITIONS = 4,                           /* not whole nines, more than 256, a kind above 2, a flag above 1; for a state: not nine words, an empty one */
+    POOL_MIRROR_INVALID_POSITIONS = 4,                           /* not whole nines, more than 256, a kind above 2, a flag above 1; state: not one, empty */
     POOL_MIRROR_INVALID_Y = 5,                                   /* y above 10,000 */
     POOL_MIRROR_INVALID_DELEGATION_FEE = 6,                      /* a fee above 1,000,000 */
     POOL_MIRROR_UNVERIFIED_PUBLISHER_CAPS = 7,                   /* verified is not 1 */
@@ -157,15 +157,15 @@ uint64_t pool_mirror_payment(uint64_t *pool, size_t pool_len, size_t p, size_t e
 uint64_t pool_mirror_add(uint64_t *pool, size_t pool_len, size_t p, size_t e, uint64_t current_epoch, const uint64_t publisher[4],
                          const uint64_t account[4], uint64_t amount);
 
-/* It falls by `amount` from the next epoch on if the position is LOCKED or LOCKING; UNLOCKED changes nothing. `state` is the position's in the current epoch,
- * as pool_mirror_position_state answers it.
+/* It falls by `amount` from the next epoch on if the position is LOCKED or LOCKING; UNLOCKED changes nothing. `state` is the position's in the current
+ * epoch, as pool_mirror_position_state answers it.
  * Refusals: 1, 10, 11, 12, 13 for an amount past 2^63 - 1, 15, 13 for a change below -2^63. */
 uint64_t pool_mirror_remove(uint64_t *pool, size_t pool_len, size_t p, size_t e, uint64_t current_epoch, const uint64_t publisher[4],
                             const uint64_t account[4], uint64_t amount, uint64_t state);
 
-/* The state of one position in `epoch`: before its activation epoch LOCKING; then LOCKED if it has no start of unlocking, else PREUNLOCKING before the start,
- * UNLOCKING from there on for unlocking_duration epochs (1 on the chain), and UNLOCKED behind them. No pool is read. `position` is one position, voting or
- * pool, nine words; its amount and key make no difference, and without the flag neither does the start.
+/* The state of one position in `epoch`: before its activation epoch LOCKING; then LOCKED if it has no start of unlocking, else PREUNLOCKING before the
+ * start, UNLOCKING from there on for unlocking_duration epochs (1 on the chain), and UNLOCKED behind them. No pool is read. `position` is the nine words of
+ * one position, voting or pool; its amount and key make no difference, and without the flag neither does the start.
  * answer: the state's number in enum pool_mirror_state, which is what pool_mirror_remove takes.
  * Refusals: 4 for any other number of words, a kind above 2, a flag above 1 and an empty position, which has no state; 13 for an end of unlocking past
  * 64 bits, from the activation epoch on. */
