@@ -1,8 +1,11 @@
-"""Builds what is timed: the mirror's static library, and programs of it and the original Rust."""
+"""Builds what is timed: the mirror's static library, and programs of it and the original Rust or an earlier library."""
 import concurrent.futures
+import filecmp
 import os
+import shutil
 import subprocess
 import sys
+import tempfile
 
 ROOT = os.path.dirname(os.path.dirname(os.path.abspath(__file__)))
 sys.path.insert(0, os.path.join(ROOT, "oracle"))
@@ -11,10 +14,14 @@ import prepare
 
 LIBRARY = os.path.join(ROOT, "target/staticlib/libpool_mirror.a")
 OUT = os.path.join(ROOT, "target/bench")
-NAMES = ["bench_0", "bench_16", "bench_32", "bench_48"]     # by so many bytes a program's code is moved
-PROGRAM = (NAMES, os.path.join(ROOT, "bench/driver"))
+BEFORE = os.path.join(OUT, "libbefore.a")
 SETTINGS = (52, 604800, 1)          # E, EPOCH_DURATION, UNLOCKING_DURATION
-LTO = {"CARGO_PROFILE_RELEASE_LTO": "fat", "CARGO_PROFILE_RELEASE_CODEGEN_UNITS": "1"}
+FOUR = range(0, 64, 16)
+KINDS = {                           # what cargo is told, and by how many bytes the code of each program is moved
+    "release": ({}, FOUR),
+    "lto": ({"CARGO_PROFILE_RELEASE_LTO": "fat", "CARGO_PROFILE_RELEASE_CODEGEN_UNITS": "1"}, FOUR),
+    "before": ({"BEFORE_ARCHIVE": BEFORE}, range(0, 16 * 272, 272)),
+}
 
 
 def newest():
@@ -38,24 +45,40 @@ def build_mirror():
             subprocess.run(["rt", *words], cwd=ROOT, check=True, stdout=sys.stderr)
 
 
-def compile_rust(p, lto, package):
+def rename(library):
+    """A copy of the earlier library, its functions with a prefix, so that both can be linked. Its time stays if it is the same, which saves a rebuild."""
+    os.makedirs(OUT, exist_ok=True)
+    listed = subprocess.run(["nm", "--defined-only", "--extern-only", "--format=posix", library],
+                            check=True, stdout=subprocess.PIPE, text=True).stdout
+    names = [line.split()[0] for line in listed.splitlines() if len(line.split()) > 2]
+    with tempfile.TemporaryDirectory() as folder:
+        table, made = os.path.join(folder, "names"), os.path.join(folder, "made")
+        with open(table, "w") as f:
+            f.writelines(f"{name} before_{name}\n" for name in names)
+        subprocess.run(["objcopy", "--enable-deterministic-archives", f"--redefine-syms={table}", library, made], check=True)
+        if not os.path.exists(BEFORE) or not filecmp.cmp(made, BEFORE, shallow=False):
+            shutil.copyfile(made, BEFORE)
+
+
+def compile_rust(p, kind, package):
     """The programs for P seats, a constant of the Rust, which the oracle's code lays out; or a package that they need."""
     folder = os.path.join(OUT, f"p{p}")
     source = os.path.join(folder, "source")
-    prepare.prepare(binary.sources(), source, p, *SETTINGS, PROGRAM)
-    cargo = os.path.join(folder, "lto" if lto else "release")
-    given = {"MIRROR_FOLDER": os.path.dirname(LIBRARY), **(LTO if lto else {})}
+    given, shifts = KINDS[kind]
+    names = [f"bench_{n}" for n in shifts]
+    prepare.prepare(binary.sources(), source, p, *SETTINGS, (names, os.path.join(ROOT, "bench/driver")))
+    cargo = os.path.join(folder, kind)
     subprocess.run(
         ["cargo", "build", "--release", "--offline", "--quiet", "--package", package,
          "--manifest-path", os.path.join(source, "Cargo.toml"), "--target-dir", cargo],
-        check=True, stdout=sys.stderr, env={**os.environ, **given})
-    return [os.path.join(cargo, "release", name) for name in NAMES]
+        check=True, stdout=sys.stderr, env={**os.environ, "MIRROR_ARCHIVE": LIBRARY, **given})
+    return [os.path.join(cargo, "release", name) for name in names]
 
 
-def build(sizes, lto):
+def build(sizes, kind):
     """The programs of each P, by P. The original is compiled while the mirror is proved."""
     with concurrent.futures.ThreadPoolExecutor(os.cpu_count()) as workers:
         mirror = workers.submit(build_mirror)
-        list(workers.map(lambda p: compile_rust(p, lto, "integrity_pool"), sizes))
+        list(workers.map(lambda p: compile_rust(p, kind, "integrity_pool"), sizes))
         mirror.result()
-        return dict(zip(sizes, workers.map(lambda p: compile_rust(p, lto, "driver"), sizes)))
+        return dict(zip(sizes, workers.map(lambda p: compile_rust(p, kind, "driver"), sizes)))

@@ -154,9 +154,10 @@ class Workspace:
         at = os.path.relpath(folder, os.path.join(self.out, "driver"))
         programs = "".join(f'\n[[bin]]\nname = "{name}"\npath = "{at}/main.rs"\n' for name in names)
         build = f'build = "{at}/build.rs"\n' if os.path.exists(f"{folder}/build.rs") else ""
+        library = f'\n[lib]\npath = "{at}/lib.rs"\n' if os.path.exists(f"{folder}/lib.rs") else ""
         self.manifest("driver", "2021",
                       "anchor_lang anchor_spl integrity_pool publisher_caps staking",
-                      build + programs)
+                      build + library + programs)
         self.put("Cargo.toml", '[workspace]\nresolver = "2"\nmembers = ["driver", "integrity_pool",'
                  ' "publisher_caps", "staking"]\n\n[profile.release]\noverflow-checks = true\n'
                  'panic = "unwind"\nopt-level = 3\n')
@@ -193,7 +194,7 @@ class Workspace:
 
 
 def prepare(sources, out, p, e, seconds, unlocking, program=(["oracle"], f"{HERE}/driver")):
-    """`program` is the program over them: the names that it is compiled under, and its folder, with main.rs and perhaps build.rs."""
+    """`program` is the program over them: the names that it is compiled under, and its folder, with main.rs and perhaps lib.rs and build.rs."""
     w = Workspace(sources, out, p, e, seconds, unlocking, program)
     w.write_pool()
     w.write_parts()

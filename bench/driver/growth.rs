@@ -6,6 +6,8 @@ use crate::{
     pools::{publishers, Pools, LAST, P},
 };
 
+const FORECAST: &str = if cfg!(before) { "forecast, 1 epoch" } else { "forecast, 1 epoch (the Rust: its advance)" };
+
 /// With the size P that the program is compiled for, and a row for each seat.
 pub fn seats(pools: &Pools) -> Vec<Case<'_>> {
     let pool = &pools.mixed;
@@ -14,7 +16,7 @@ pub fn seats(pools: &Pools) -> Vec<Case<'_>> {
         ("fresh", Call::Fresh(LAST)),
         ("advance, 1 epoch", Call::Advance(all(1))),
         ("advance, 52 epochs", Call::Advance(all(52))),
-        ("forecast, 1 epoch (the Rust: its advance)", Call::Forecast(all(1))),
+        (FORECAST, Call::Forecast(all(1))),
         ("payment, 256 matching, 52 events", payment(pool, 52, matching(pool, 256))),
         ("add", Call::Add(change(pool))),
         ("fee", fee()),

@@ -1,137 +1,19 @@
-//! Times the mirror's static library beside the original Rust, on the same inputs and in the same
-//! memory. A case on which the two differ ends the run with status 1. It is compiled under four names, which
-//! say how far the code is moved.
-#[path = "../../oracle/driver/accounts.rs"]
-mod accounts;
-mod bench;
-mod bounds;
-mod calls;
-mod case;
-mod cases;
-#[path = "../../oracle/driver/derived.rs"]
-mod derived;
-mod growth;
-#[path = "../../oracle/driver/handed.rs"]
-mod handed;
-mod inputs;
-#[allow(dead_code)]
-#[path = "../../oracle/driver/journal.rs"]
-mod journal;
-mod mirror;
-mod numbers;
-mod original;
-mod pools;
-#[allow(dead_code)]
-#[path = "../../oracle/driver/refusal.rs"]
-mod refusal;
-mod timed;
+//! The program. It is compiled under several names, which say by how many bytes the code is moved.
+use std::process::ExitCode;
 
-use {
-    bench::{Bench, Checked},
-    case::Case,
-    pools::Pools,
-    std::process::ExitCode,
+const SHIFT: usize = match usize::from_str_radix(env!("CARGO_BIN_NAME").split_at("bench_".len()).1, 10) {
+    Ok(bytes) => bytes,
+    Err(_) => panic!("a name without a number"),
 };
 
 // Bytes that are never run: the code behind them, of both sides, is moved by so many.
 std::arch::global_asm!(
     ".section .text.bench_shift, \"axR\", @progbits",
-    ".set bench_0, 0",
-    ".set bench_16, 16",
-    ".set bench_32, 32",
-    ".set bench_48, 48",
-    concat!(".skip ", env!("CARGO_BIN_NAME")),
-    ".text"
+    ".skip {shift}",
+    ".text",
+    shift = const SHIFT,
 );
 
-/// What is done with a case: the line that it comes to.
-type Each = fn(&Bench, &Case) -> Checked<String>;
-
-/// Its name, its size, the mirror's and the Rust's nanoseconds for one call, their ratio, the nanoseconds of
-/// the Rust's one call that was compared, and the note.
-fn time(bench: &Bench, case: &Case) -> Checked<String> {
-    let once = bench.compare(case, 1)?;
-    if case.calls() > 1 {
-        bench.compare(case, case.calls())?;
-    }
-    let times = bench.time(case)?;
-    let size = case.size.map_or(String::new(), |size| size.to_string());
-    let theirs = times.theirs.map_or("\t".to_string(), |theirs| format!("{}\t{}", theirs.nanos, theirs.ratio));
-    Ok(format!("{}\t{size}\t{}\t{theirs}\t{once}\t{}", case.name, times.ours, case.note))
-}
-
-/// The mirror's call, once; the case's name. Callgrind dumps what it has counted where this function,
-/// which it knows by its name, is left.
-#[inline(never)]
-fn count(bench: &Bench, case: &Case) -> Checked<String> {
-    bench.mirror(case, 1).map(|_| case.name.to_string())
-}
-
-fn each(name: &str) -> Option<Each> {
-    match name {
-        "time" => Some(time),
-        "count" => Some(count),
-        _ => None,
-    }
-}
-
-fn table<'a>(name: &str, pools: &'a Pools) -> Option<Vec<Case<'a>>> {
-    match name {
-        "calls" => Some(cases::all(pools)),
-        "seats" => Some(growth::seats(pools)),
-        "rows" => Some(growth::rows(pools)),
-        "positions" => Some(growth::positions(pools)),
-        _ => None,
-    }
-}
-
-/// The mirror's time for as many epochs as it may pass over that for those of one ring, in turns.
-fn passing(pools: &Pools) -> Checked<()> {
-    let [long, ring] = cases::passing(pools);
-    println!("{}", Bench::new().side_by_side(&long, &ring)?);
-    Ok(())
-}
-
-/// What the words alone cost: a name and nanoseconds in each line.
-fn bounds(pools: &Pools) -> Checked<()> {
-    for (name, nanos) in bounds::all(&pools.mixed)? {
-        println!("{name}\t{nanos}");
-    }
-    Ok(())
-}
-
-fn report(each: Each, cases: &[Case]) -> Checked<()> {
-    let bench = Bench::new();
-    for case in cases {
-        let line = each(&bench, case).map_err(|what| format!("{}: {what}", case.label()))?;
-        println!("{line}");
-    }
-    Ok(())
-}
-
-/// None where the words are not understood.
-fn run(words: &[&str], pools: &Pools) -> Option<Checked<()>> {
-    match words {
-        ["passing"] => Some(passing(pools)),
-        ["bounds"] => Some(bounds(pools)),
-        [what, cases] => Some(report(each(what)?, &table(cases, pools)?)),
-        _ => None,
-    }
-}
-
 fn main() -> ExitCode {
-    refusal::install_hook();
-    let args: Vec<_> = std::env::args().skip(1).collect();
-    let words: Vec<_> = args.iter().map(String::as_str).collect();
-    match run(&words, &pools::pools()) {
-        Some(Ok(())) => ExitCode::SUCCESS,
-        None => {
-            eprintln!("bench: passing, bounds, or time or count and calls, seats, rows or positions");
-            ExitCode::from(2)
-        }
-        Some(Err(what)) => {
-            eprintln!("different: {what}");
-            ExitCode::FAILURE
-        }
-    }
+    driver::main()
 }

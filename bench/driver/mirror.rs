@@ -1,4 +1,4 @@
-//! The mirror's static library: its functions, and runs of them.
+//! The mirror's static library, and an earlier version of it where there is one: functions, and runs of them.
 use {
     crate::{
         inputs::{SECONDS, UNLOCKING},
@@ -8,10 +8,33 @@ use {
         timed::{Run, Start},
     },
     anchor_lang::prelude::Pubkey,
+    std::hint::black_box,
 };
 
+/// The functions of both libraries, as values: the code that runs them is the same for both.
+macro_rules! libraries {
+    ($(fn $name:ident($($value:ident: $kind:ty),* $(,)?) -> u64;)*) => {
+        #[derive(Clone, Copy)]
+        pub struct Library {
+            $($name: unsafe extern "C" fn($($kind),*) -> u64,)*
+        }
+
+        mod now {
+            extern "C" { $(pub fn $name($($value: $kind),*) -> u64;)* }
+        }
+        pub const NOW: Library = Library { $($name: now::$name,)* };
+
+        #[cfg(before)]
+        mod before {
+            extern "C" { $(#[link_name = concat!("before_", stringify!($name))] pub fn $name($($value: $kind),*) -> u64;)* }
+        }
+        #[cfg(before)]
+        pub const BEFORE: Library = Library { $($name: before::$name,)* };
+    };
+}
+
 #[rustfmt::skip]
-extern "C" {
+libraries! {
     fn pool_mirror_fresh(pool: *mut u64, pool_len: usize, p: usize, e: usize, epoch: u64) -> u64;
     fn pool_mirror_advance(
         pool: *mut u64, pool_len: usize, p: usize, e: usize, current_epoch: u64, y: u64, custody: u64, verified: u64,
@@ -66,18 +89,18 @@ fn plain(from: &Start, mut call: impl FnMut(u64) -> u64) -> Asked<Run> {
     Ok(Run { answer: Vec::new(), nanos })
 }
 
-fn fresh(from: &Start, epoch: u64) -> Asked<Run> {
+fn fresh(library: &Library, from: &Start, epoch: u64) -> Asked<Run> {
     let (at, len) = from.memory();
-    plain(from, |_| unsafe { pool_mirror_fresh(at, len, P, E, epoch) })
+    plain(from, |_| unsafe { (library.pool_mirror_fresh)(at, len, P, E, epoch) })
 }
 
-fn advance(from: &Start, a: &Advance) -> Asked<Run> {
+fn advance(library: &Library, from: &Start, a: &Advance) -> Asked<Run> {
     let (at, len) = from.memory();
     let caps = a.caps.clone();
     let mut answer = [0; 5];
     let (_, nanos) = from.timed(|_| {
         accepted(unsafe {
-            pool_mirror_advance(
+            (library.pool_mirror_advance)(
                 at, len, P, E, a.now, a.y, a.custody, a.verified, caps.as_ptr(), caps.len(), SECONDS,
                 &mut answer,
             )
@@ -86,13 +109,13 @@ fn advance(from: &Start, a: &Advance) -> Asked<Run> {
     Ok(Run { answer: answer.to_vec(), nanos })
 }
 
-fn forecast(from: &Start, a: &Advance) -> Asked<Run> {
+fn forecast(library: &Library, from: &Start, a: &Advance) -> Asked<Run> {
     let (at, len) = from.memory();
     let caps = a.caps.clone();
     let mut answer = [0; 1];
     let (_, nanos) = from.timed(|_| {
         accepted(unsafe {
-            pool_mirror_forecast(
+            (library.pool_mirror_forecast)(
                 at, len, P, E, a.now, a.y, a.custody, a.verified, caps.as_ptr(), caps.len(), SECONDS,
                 &mut answer,
             )
@@ -101,7 +124,7 @@ fn forecast(from: &Start, a: &Advance) -> Asked<Run> {
     Ok(Run { answer: answer.to_vec(), nanos })
 }
 
-fn payment(from: &Start, q: &Payment) -> Asked<Run> {
+fn payment(library: &Library, from: &Start, q: &Payment) -> Asked<Run> {
     let (at, len) = from.memory();
     let (publisher, account) = (key_words(&q.publisher), key_words(&q.account));
     let has_paid_to = q.publisher_account.is_some() as u64;
@@ -112,7 +135,7 @@ fn payment(from: &Start, q: &Payment) -> Asked<Run> {
     let (_, nanos) = from.timed(|_| {
         record = found;
         accepted(unsafe {
-            pool_mirror_payment(
+            (library.pool_mirror_payment)(
                 at, len, P, E, q.now, &publisher, &account, &mut record, has_paid_to, &paid_to,
                 q.custody_flag, positions.as_ptr(), positions.len(), UNLOCKING, &mut answer,
             )
@@ -122,24 +145,25 @@ fn payment(from: &Start, q: &Payment) -> Asked<Run> {
     Ok(Run { answer: vec![delegator, publisher, record[0], record[1], reads, fall], nanos })
 }
 
-fn add(from: &Start, c: &Change) -> Asked<Run> {
+fn add(library: &Library, from: &Start, c: &Change) -> Asked<Run> {
     let (at, len) = from.memory();
     let (publisher, account) = (key_words(&c.publisher), key_words(&c.account));
     plain(from, |_| unsafe {
-        pool_mirror_add(at, len, P, E, c.now, &publisher, &account, c.amount)
+        (library.pool_mirror_add)(at, len, P, E, c.now, &publisher, &account, c.amount)
     })
 }
 
-fn remove(from: &Start, c: &Change, state: u64) -> Asked<Run> {
+fn remove(library: &Library, from: &Start, c: &Change, state: u64) -> Asked<Run> {
     let (at, len) = from.memory();
     let (publisher, account) = (key_words(&c.publisher), key_words(&c.account));
     plain(from, |_| unsafe {
-        pool_mirror_remove(at, len, P, E, c.now, &publisher, &account, c.amount, state)
+        (library.pool_mirror_remove)(at, len, P, E, c.now, &publisher, &account, c.amount, state)
     })
 }
 
 /// Each call of a run takes the next index.
 fn create_slash_event(
+    library: &Library,
     from: &Start,
     now: u64,
     publisher: &Pubkey,
@@ -150,7 +174,7 @@ fn create_slash_event(
     let mut answer = [0; 1];
     let (_, nanos) = from.timed(|j| {
         accepted(unsafe {
-            pool_mirror_create_slash_event(
+            (library.pool_mirror_create_slash_event)(
                 at, len, P, E, now, &publisher, index + j, &mut answer,
             )
         })
@@ -159,13 +183,13 @@ fn create_slash_event(
 }
 
 /// Each call of a run takes the next index, with the record that the one before left.
-fn slash(from: &Start, s: &Slash) -> Asked<Run> {
+fn slash(library: &Library, from: &Start, s: &Slash) -> Asked<Run> {
     let (at, len) = from.memory();
     let (publisher, account) = (key_words(&s.publisher), key_words(&s.account));
     let mut record = [s.record.last_epoch, s.record.next_slash_event_index];
     let (_, nanos) = from.timed(|j| {
         accepted(unsafe {
-            pool_mirror_slash(
+            (library.pool_mirror_slash)(
                 at, len, P, E, s.now, &publisher, &account, &mut record, s.index + j,
                 s.event_epoch, s.locked, s.preunlocking,
             )
@@ -174,13 +198,13 @@ fn slash(from: &Start, s: &Slash) -> Asked<Run> {
     Ok(Run { answer: record.to_vec(), nanos })
 }
 
-fn fee(from: &Start, fee: u64) -> Asked<Run> {
+fn fee(library: &Library, from: &Start, fee: u64) -> Asked<Run> {
     let (at, len) = from.memory();
-    plain(from, |_| unsafe { pool_mirror_fee(at, len, P, E, fee) })
+    plain(from, |_| unsafe { (library.pool_mirror_fee)(at, len, P, E, fee) })
 }
 
 /// Every other call of a run changes the accounts back.
-fn stake_account(from: &Start, s: &SetStakeAccount) -> Asked<Run> {
+fn stake_account(library: &Library, from: &Start, s: &SetStakeAccount) -> Asked<Run> {
     let (at, len) = from.memory();
     let [publisher, signer, authority] = [&s.publisher, &s.signer, &s.authority].map(key_words);
     let words = |a: &Option<StakeAccount>| {
@@ -192,7 +216,7 @@ fn stake_account(from: &Start, s: &SetStakeAccount) -> Asked<Run> {
         let old = &accounts[(j % 2) as usize];
         let new = &accounts[(1 - j % 2) as usize];
         unsafe {
-            pool_mirror_stake_account(
+            (library.pool_mirror_stake_account)(
                 at, len, P, E, &publisher, &signer, &authority, 1, &old.0, &old.1, old.2.as_ptr(),
                 old.2.len(), 1, &new.0, new.2.as_ptr(), new.2.len(),
             )
@@ -200,20 +224,21 @@ fn stake_account(from: &Start, s: &SetStakeAccount) -> Asked<Run> {
     })
 }
 
-/// Calls in a row.
-pub fn run(from: &Start, call: &Call) -> Asked<Run> {
+/// Calls in a row. Of two libraries the functions are read from the same place; one alone is called directly.
+pub fn run(library: &Library, from: &Start, call: &Call) -> Asked<Run> {
+    let library = if cfg!(before) { &black_box(*library) } else { &NOW };
     match call {
-        Call::Fresh(epoch) => fresh(from, *epoch),
-        Call::Advance(a) => advance(from, a),
-        Call::Forecast(a) => forecast(from, a),
-        Call::Payment(q) => payment(from, q),
-        Call::Add(c) => add(from, c),
-        Call::Remove(c, state) => remove(from, c, *state as u64),
+        Call::Fresh(epoch) => fresh(library, from, *epoch),
+        Call::Advance(a) => advance(library, from, a),
+        Call::Forecast(a) => forecast(library, from, a),
+        Call::Payment(q) => payment(library, from, q),
+        Call::Add(c) => add(library, from, c),
+        Call::Remove(c, state) => remove(library, from, c, *state as u64),
         Call::CreateSlashEvent { now, publisher, index } => {
-            create_slash_event(from, *now, publisher, *index)
+            create_slash_event(library, from, *now, publisher, *index)
         }
-        Call::Slash(s) => slash(from, s),
-        Call::Fee(f) => fee(from, *f),
-        Call::StakeAccount(s) => stake_account(from, s),
+        Call::Slash(s) => slash(library, from, s),
+        Call::Fee(f) => fee(library, from, *f),
+        Call::StakeAccount(s) => stake_account(library, from, s),
     }
 }
