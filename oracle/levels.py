@@ -16,8 +16,8 @@ LEVELS = {
 
 
 def write(journal, level, seed, size, settings, calls, long=True, states=True):
-    """A journal of at least so many calls on pools of one size, under one epoch length and unlocking length; at will without long lists. Between the lists,
-    at every level and at will not, positions' states: they need no pool, and so none of a level's calls."""
+    """A journal of at least so many calls on pools of one size, under one epoch length and unlocking length; at will without long lists. Between the
+    lists come positions' states, at will none: they need no pool, and so come at every level."""
     kind, lists = LEVELS[level]
     generator = kind(journal, seed, *size, *settings)
     weights, lists = zip(*(pair for pair in lists if long or pair[1] is not Stakers.staking_list))
