@@ -240,5 +240,6 @@ pub fn run(library: &Library, from: &Start, call: &Call) -> Asked<Run> {
         Call::Slash(s) => slash(library, from, s),
         Call::Fee(f) => fee(library, from, *f),
         Call::StakeAccount(s) => stake_account(library, from, s),
+        Call::State { .. } => unreachable!("no case asks for a position's state: it is no call on a pool"),
     }
 }

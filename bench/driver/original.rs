@@ -186,5 +186,6 @@ pub fn run(from: &Start, call: &Call) -> Asked<Run> {
         Call::Slash(s) => slash(from, s),
         Call::Fee(f) => fee(from, *f),
         Call::StakeAccount(s) => stake_account(from, s),
+        Call::State { .. } => unreachable!("no case asks for a position's state: it is no call on a pool"),
     }
 }

@@ -25,7 +25,7 @@ fn smaller(a: u64, b: u64) -> u64
     if a < b { a } else { b }
 }
 
-// The ratio of an eligible part to its total. A part that is none or all of it needs no division.
+// The ratio of an eligible part to its total. A part that is none or all of it needs no division, and one of less than 2^44 no product of two words.
 fn reward_ratio(part: u64, total: u64) -> u64
     requires { ⌜ part ≤ total ⌝ }
     ensures { λ r. ⌜ r ≡ ratioOf part total ⌝ }
@@ -35,6 +35,9 @@ fn reward_ratio(part: u64, total: u64) -> u64
     }
     if part == total {
         return FRAC_64_MULTIPLIER;
+    }
+    if part < 0x1000_0000_0000 {
+        return FRAC_64_MULTIPLIER * part / total;
     }
     match types::mul_div::mul_div(FRAC_64_MULTIPLIER, part, total) {
         MulDiv::Fits {
