@@ -73,7 +73,7 @@ extern "C" {
  * A payment writes the first, a slash the second. A new record is 0 and 0. */
 #define POOL_MIRROR_RECORD_LEN 2
 
-/* Enough for every function, whatever its input. Measured: 66 KiB in advance and forecast, 4 KiB in payment, less than 1 KiB in the others. */
+/* Enough for every function, whatever its input. Measured: 62 KiB in advance and forecast, 4 KiB in payment, less than 1 KiB in the others. */
 #define POOL_MIRROR_STACK 131072
 
 /* The state of a position: pool_mirror_position_state answers it, pool_mirror_remove takes it. Any other number is refused there where UNLOCKING is. */
