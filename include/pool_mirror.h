@@ -47,8 +47,8 @@ extern "C" {
  *   3 + 12 p + e (9 + 3 p) + s       number of slash events
  *   3 + 13 p + e (9 + 3 p) + s       fee
  *
- * In the data of the on-chain account the image at 1,024 and 52 is the 1,396,408 bytes behind the first 8, as little-endian words. The account has
- * 2,097,152 bytes (`PoolData::LEN`); those behind the image are no part of it. */
+ * In the data of the on-chain account the image at 1,024 and 52 is the 1,396,408 bytes behind the first 8, as little-endian words:
+ * `tail -c +9 account.data | head -c 1396408`. The account has 2,097,152 bytes (`PoolData::LEN`); those behind the image are no part of it. */
 #define POOL_MIRROR_IMAGE_LEN(p, e) ((size_t)3 + (size_t)14 * (p) + (size_t)(e) * ((size_t)9 + (size_t)3 * (p)))
 #define POOL_MIRROR_MAX_P 1024
 #define POOL_MIRROR_MAX_E 52
