@@ -197,7 +197,7 @@ CHANGES = SENTENCES + REFUSED
 
 # Lines with a field wrong, and with one too few or too many.
 DIGITS, PAST, STATE, LISTED = A.hex(), str(WORD), "not a state", ",".join(map(str, ONE))
-ROOM, UNOWNED, ABSENT = ",".join(["0"] * 2_314), "an account without its owner", "no account, but its fields"
+UNOWNED, ABSENT = "an account without its owner", "no account, but its fields"
 WRONG = {
     add(5): [(1, "x", NUMBER), (1, PAST, LARGE), (2, "none", KEY), (2, DIGITS[1:], KEY), (3, "none", KEY), (3, DIGITS + "0", KEY), (4, "-1", NUMBER),
              (4, PAST, LARGE), (4, "LOCKED", NUMBER)],
@@ -208,9 +208,9 @@ WRONG = {
                   (8, PAST, LARGE), (9, "1.", NUMBER)],
     fee(5): [(1, PAST, LARGE), (1, "-", NUMBER), (1, "0x1", NUMBER)],
     by_owner(new_words=ONE): [(1, "none", KEY), (2, "none", KEY), (3, "none", KEY), (3, "-", KEY), (4, "None", KEY), (4, DIGITS[1:], KEY), (5, "-", KEY),
-                              (6, "none", NUMBER), (6, "2,", NUMBER), (6, ROOM, "too many words"), (7, "x", KEY), (8, "none", NUMBER),
-                              (8, "1,,2", NUMBER), (8, ROOM, "too many words"), (5, "none", UNOWNED)],
-    stake_account(None): [(5, DIGITS, ABSENT), (6, "0", ABSENT), (6, LISTED, ABSENT), (8, "0", ABSENT), (8, LISTED, ABSENT)],
+                              (6, "none", NUMBER), (6, "2,", NUMBER), (6, "0," * 2_312, NUMBER), (6, "0," * 2_312 + "0x", KEY), (7, "x", KEY), (8, "none", NUMBER),
+                              (8, "1,,2", NUMBER), (8, "0," * 2_312 + PAST, LARGE), (8, "2,1,0,0,0,0x" + DIGITS[1:], KEY), (5, "none", UNOWNED)],
+    stake_account(None): [(5, DIGITS, ABSENT), (6, "0", ABSENT), (6, LISTED, ABSENT), (8, "0", ABSENT), (8, LISTED, ABSENT), (8, "0x" + DIGITS, ABSENT)],
 }
 WRONG_LINES = [(with_field(line, at, field), named(line, at, what)) for line, faults in WRONG.items() for at, field, what in faults]
 WRONG_LINES += cut_or_longer(WRONG)
@@ -228,6 +228,12 @@ WRONG_LINES += [
 CASES = [
     # before the first `new`
     Case("\n".join(CALLS) + "\n", ["refused 1"] * 6),
+    # both lists longer than they are kept, each with its own room
+    Case(f"new 1 1\nfresh 10\n{with_field(with_field(by_owner(), 6, '0,' * 2_313 + 'x'), 8, '0,' * 3_000 + '0x')}\n", ["ok 29", "ok", "refused 4"]),
+    # keys as items of both lists
+    Case(f"new 2 1\nimage {','.join(map(str, seats()))}\n" + "".join(
+        with_field(by_owner(), place, f"2,1,0,0,0,0x{key.hex()}") + "\n" for place, key in ((6, A), (8, A), (6, B), (6, B))),
+         ["ok 46", "ok 46", "refused 24", "refused 27", "ok", "refused 17"]),
     # the most words of a position list, and keys and lists in either case, with spaces
     Case(f"new 1 1\nfresh 10\n{by_owner(old_words=[0] * 2_313)}\n{by_owner(new_words=[0] * 2_304)}\n", ["ok 29", "ok", "refused 4", "refused 11"]),
     Case("new 1 1\nimage " + ",".join(map(str, seats(keys=[b"\xab" * 32], p=1))) + "\n  add   010  " + "aB" * 32 + " " + ACCOUNT.hex() + "   0005  \nnonzero\n",

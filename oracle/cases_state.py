@@ -4,7 +4,7 @@ For the program alone: its wrong lines.
 Unless a case says otherwise: activation 5, start 8, unlocking length 1.
 """
 from by_hand import stake
-from cases import LARGE, NUMBER, Case, cut_or_longer, named, with_field, wrong
+from cases import KEY, LARGE, NUMBER, Case, cut_or_longer, named, with_field, with_rest, wrong
 from model import HALF, WORD
 from states import line
 
@@ -66,11 +66,14 @@ STATES = [
 ASKED, PAST = line(8, STARTED), str(WORD)
 WRONG_LINES = [(with_field(ASKED, place, field), named(ASKED, place, what)) for place, field, what in (
     (1, "x", NUMBER), (1, "-", NUMBER), (1, PAST, LARGE), (2, "none", NUMBER), (2, "LOCKED", NUMBER), (2, "2,", NUMBER), (2, "2,,1", NUMBER), (2, "2," + PAST, LARGE),
-    (2, ",".join(["0"] * 2_314), "too many words"))]
+    (2, "2,1,5,1,8,0x" + "0" * 63, KEY), (2, "0," * 2_312, NUMBER), (2, "0," * 2_312 + PAST, LARGE))]
 WRONG_LINES += cut_or_longer([ASKED])
 WRONG_LINES += [(text, "an unknown call") for text in ("State 8 -", "states 8 -", "position-state 8 -", "stat 8 -")]
 
 CASES = [
     # the most words of a list; leading zeros, spaces
     Case(f"state 8 {','.join(['0'] * 2_313)}\n  state   0008  02,1,05,01,{'0' * 30}8,0,0,0,0  \n", ["refused 4", "ok UNLOCKING"]),
+    with_rest(line(8, [0] * 2_313), "refused 4"),
+    # the key as one item; as one of its four words it is too few
+    Case(f"state 8 2,1,5,1,8,0x{'aB' * 32}\nstate 8 2,1,5,1,8,0x{'0' * 64},0\nstate 8 2,1,5,1,0x{'0' * 64}\n", ["ok UNLOCKING", "refused 4", "refused 4"]),
 ] + [wrong(*both) for both in WRONG_LINES]

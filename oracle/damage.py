@@ -9,7 +9,8 @@ import cases_state
 import forms
 import journal
 import levels
-from forms import CALLS, ITEM, MESSAGE_ROOM, POSITIONS_ROOM, ROOM
+import spelling
+from forms import CALLS, IMAGE_ROOM, ITEM, MESSAGE_ROOM, PATH_ROOM, POSITIONS_ROOM
 
 ROOT = os.path.dirname(journal.HERE)
 SIZES = [(1, 1), (2, 4), (4, 4), (3, 7), (16, 52)]
@@ -19,7 +20,9 @@ BYTES = b"\0\t\n\r #,-+.09afAFgx\x7f\x80\xc3\xff"
 NUMBERS = [0, 1, 2, 10, 52, 53, 1_024, 1_025, 2**63 - 1, 2**63, 2**64 - 1, 2**64, 2**64 + 1, 10**20 - 1, 10**20, 10**25]
 NO_NUMBERS = [b"-1", b"+1", b"1.", b"0x1", b"1e3", b"x", b"-", b"--", b"none", b"1,", b"\xc2\xb2", b"1\t", b"1\r", b"\0", b"18446744073709551616x", b"1_0"]
 WRONG_LINES = [line.encode() for line, _ in cases.WRONG_LINES + cases_changes.WRONG_LINES + cases_state.WRONG_LINES if len(line) < 100_000]
-NAMES = b"pool three none odd long folder missing other pool.new a \xff\xfe . .. x\0y".split() + [b"n" * 251, b"n" * 252, b"n" * 256]
+NAMES = b"pool three none odd long short link nowhere folder missing other pool.new a \xff\xfe . .. x\0y".split()
+NAMES += [b"n" * length for length in (200, *range(239, 250), 255, 256)]       # up to where the second name gets too long, whatever the process's number
+BAD_BYTES = b"gGx-,.\r\t\0\x7f\xff"      # none is a digit
 
 
 def right_journals(seed):
@@ -27,12 +30,12 @@ def right_journals(seed):
     found = []
     for path in sorted(glob.glob(f"{ROOT}/examples/*.journal") + glob.glob(f"{journal.HERE}/journals/*.journal")):
         with open(path, "rb") as f:
-            found.append([line for line in f.read().splitlines() if not line.startswith((b"leaf", b"bench"))])
+            found.append([line for line in f.read().removesuffix(b"\n").split(b"\n") if not line.startswith((b"leaf", b"bench"))])
     for n in range(GENERATED):
-        written = journal.Journal()
+        written = spelling.Spelled(f"{seed} {n}")
         size, calls = (SIZES[n % len(SIZES)], 5 + n) if n % 20 else ((1_024, 52), 3)
         levels.write(written, "operate", f"{seed} {n}", size, (604_800, 1) if n % 3 else (1, 2), calls, long=False)
-        found.append(written.text().encode().splitlines())
+        found.append(written.text().encode().removesuffix(b"\n").split(b"\n"))
     return found
 
 
@@ -63,25 +66,57 @@ class Damage:
             return self.r.choice([b"01" + b"0" * 62, b"0" * 64, self.digits(64)])
         return self.r.choice([self.digits(63), self.digits(65), self.digits(62), self.digits(128), self.digits(63) + b"g", b"none", b"None", b"-", b"0"])
 
+    def long_message(self):
+        """Around what is kept and around what the program holds at once, and longer; at times with a byte that is no digit, in what is kept or behind it."""
+        kept = 2 * MESSAGE_ROOM
+        length = self.r.choice([kept + self.r.randrange(-2, 5), ITEM + self.r.randrange(-1, 3), 200_000, 300_000 + self.r.randrange(2)])
+        text = bytearray((self.digits(64) * (length // 64 + 1))[:length])
+        if self.r.random() < .5:
+            at = self.r.choice([kept - 2, kept - 1, kept, kept + 1, length - 1, self.r.randrange(kept), self.r.randrange(length)])
+            text[at:at + 1] = bytes([self.r.choice(BAD_BYTES)])
+        return bytes(text)
+
     def message(self):
         if self.r.random() < .1:
-            return self.digits(2 * MESSAGE_ROOM + self.r.choice([-2, -1, 0, 1, 2, 2, 4]))
-        return self.r.choice([b"-", b"0", b"--", b"0200000000005c49000000", self.digits(22), self.digits(self.r.randrange(1, 200)), self.digits(30) + b"g0"])
+            return self.long_message()
+        return self.r.choice([b"-", b"0", b"--", b"0200000000005c49000000", self.digits(22), self.digits(self.r.randrange(1, 200)), self.digits(30) + b"g0", b"0x" + self.digits(20)])
+
+    def no_key(self):
+        """An item that comes close to a key."""
+        return self.r.choice([b"0x", b"0X" + self.digits(64), b"0x" + self.digits(self.r.choice([1, 62, 63, 65, 128])), b"0x" + self.digits(63) + b"g", b"0x0x" + self.digits(62),
+                              self.digits(64), b"00x" + self.digits(64), b"-0x" + self.digits(64), b"0x" + self.digits(64) + b"\r"])
+
+    def no_item(self):
+        return self.r.choice([b"", b"", b"-", b"x", self.number(), self.no_key(), self.no_key(), b"0" * (ITEM + self.r.randrange(2)), b"0x" + b"0" * ITEM])
+
+    def long_list(self, room):
+        """Words as far as they are kept, about so many, or far more; at times with a key around the room's end, and with an item that is none around it or anywhere."""
+        items = [b"0"] * (room + self.r.choice([-2, -1, 0, 0, 1, 2, 5, room, 70_000]))
+        if self.r.random() < .5:
+            at = room - self.r.randrange(7)
+            items[at:at + 1] = [b"0x" + self.digits(64)]
+        if self.r.random() < .5:
+            at = self.r.choice([*(max(0, room - near) for near in range(6)), -1, self.r.randrange(len(items))])
+            items[at:at + 1 or None] = [self.no_item()]
+        return b",".join(items)
 
     def list(self, room):
-        """Around its room, and with items that are none."""
-        if self.r.random() < .08:
-            items = [b"0"] * (room + self.r.choice([-1, 0, 1, 2]))
-        else:
-            items = [str(self.r.choice(NUMBERS[:11])).encode() for _ in range(self.r.choice([0, 1, 2, 9, 18, 29]))]
+        """Around its room, with keys, and with items that are none."""
+        if self.r.random() < .1:
+            return self.long_list(room)
+        items = [str(self.r.choice(NUMBERS[:11])).encode() for _ in range(self.r.choice([0, 1, 2, 9, 18, 29]))]
+        for at in range(len(items) - 4, -1, -1):
+            if self.r.random() < .1:
+                items[at:at + 4] = [b"0x" + self.digits(64)]
         if items and self.r.random() > self.care:
-            items[self.r.choice([0, -1, self.r.randrange(len(items))])] = self.r.choice([b"", b"", b"-", b"x", self.number()])
+            items[self.r.choice([0, -1, self.r.randrange(len(items))])] = self.r.choice([self.no_item(), b"0x" + self.digits(64)])
         return b",".join(items) or b"-"
 
     def position(self):
-        """Nine words that come close to a position's."""
-        words = [self.r.choice([0, 1, 2, 2, 2, 3]), *self.r.choices(NUMBERS[:11], k=2), self.r.choice([0, 1, 1, 2]), *self.r.choices(NUMBERS[:11], k=5)]
-        return ",".join(map(str, words)).encode()
+        """Nine words that come close to a position's; its key at times as one item."""
+        words = [self.r.choice([0, 1, 2, 2, 2, 3]), *self.r.choices(NUMBERS[:11], k=2), self.r.choice([0, 1, 1, 2]), self.r.choice(NUMBERS[:11])]
+        key = [b"0x" + self.digits(64)] if self.r.random() < .4 else [str(n).encode() for n in self.r.choices(NUMBERS[:11], k=4)]
+        return b",".join([*(str(word).encode() for word in words), *key])
 
     def field(self, name):
         """One for a field of this name, right or not."""
@@ -92,9 +127,11 @@ class Damage:
         if name in forms.POSITIONS:
             return self.list(POSITIONS_ROOM)
         if name == "WORDS":
-            return self.list(ROOM if self.r.random() < .1 else 100)
+            return self.list(IMAGE_ROOM if self.r.random() < .1 else 100)
         if name == "PATH":
-            return self.r.choice([*NAMES, b"p" * self.r.choice([4_095, 4_096, MESSAGE_ROOM, MESSAGE_ROOM + 1])])
+            return self.r.choice([*NAMES, b"p" * self.r.choice([4_095, 4_096, PATH_ROOM, PATH_ROOM + 1])])
+        if name == "CALL":
+            return self.r.choice([*(call.encode() for call in CALLS), *(call.encode() for call in CALLS), b"x", b"New", b"sho", b"-", b"0", b"help\r", b"\0"])
         if name == "STATE":
             return self.r.choice([b"LOCKED", b"LOCKING", b"UNLOCKED", b"UNLOCKING", b"PREUNLOCKING", b"locked", b"LOCKE", b"LOCKEDX", b"1"])
         if name in forms.KEYS_OR_NONE and self.r.random() < .4:
@@ -107,9 +144,12 @@ class Damage:
         return self.r.choice([
             lambda: b"0" * (length - 1) + b"1",
             lambda: b"x" * length,
-            lambda: self.digits(length),
+            lambda: (self.digits(64) * (length // 64 + 1))[:length],
+            lambda: b"0x" + b"a" * (length - 2),
+            lambda: b"LOCKED" + b"D" * (length - 6),
             lambda: b"," * length,
             lambda: b"1," * (length // 2) + b"1",
+            lambda: (b"0x" + self.digits(64) + b",") * (length // 67) + b"1",
         ])()
 
     def any_line(self):
@@ -125,7 +165,7 @@ class Damage:
         fields = line.split(b" ")
         at = self.r.randrange(len(fields))
         names = CALLS.get(fields[0].decode("latin-1"), [])
-        kind = self.r.randrange(12)
+        kind = self.r.randrange(13)
         if kind < 5 and names:
             at = self.r.randrange(len(names))
             fields[at + 1:at + 2] = [self.field(names[at])]
@@ -142,6 +182,8 @@ class Damage:
             fields[at] = self.r.choice([fields[at].upper(), b"0" + fields[at], fields[at][:-1], fields[at] + b",", fields[at] + b"0"])
         elif kind == 10:
             fields[at] = b" " * self.r.randrange(1, 9) + fields[at] + b" " * self.r.randrange(9)
+        elif kind == 11:
+            fields[at] = self.r.choice([fields[at] + b"\r", b"\r" + fields[at], fields[at][:3] + b"\r" + fields[at][3:], b"0x" + fields[at], fields[at].replace(b"0x", b"", 1)])
         elif self.r.random() < .25:
             fields[at] = self.long_field()
         else:
@@ -154,32 +196,41 @@ class Damage:
         lists = [self.r.choice([b"-", b"-", b"0"]) for _ in range(2)]
         more = self.r.choice([0, 1])
         return self.r.choice([
-            lambda: b"forecast 1 1 1 1 " + b"ab" * (MESSAGE_ROOM + more),
+            *[lambda: self.r.choice([b"forecast 1 1 1 1 ", b"advance 10 10000 0 1 "]) + self.long_message() + self.r.choice([b"", b"", b"\r", b" \r", b" 0"])] * 3,
             lambda: b" ".join([b"stake-account", *[self.digits(64)] * 3, *keys[:2], lists[0], keys[2], lists[1]]),
-            lambda: b"load " + self.r.choice([b"odd", b"long", b"p" * (MESSAGE_ROOM + more)]),
-            lambda: b"image " + b",".join([b"7"] * (ROOM + more)),
+            lambda: b" ".join([b"stake-account", *[self.digits(64)] * 5, self.long_list(POSITIONS_ROOM), self.digits(64), self.long_list(POSITIONS_ROOM)]),
+            lambda: b" ".join([b"payment 10", *[self.digits(64)] * 2, b"0 0 none 0", self.long_list(POSITIONS_ROOM)]),
+            lambda: b"load " + self.r.choice([b"odd", b"long", b"short", b"link"]),
+            lambda: self.r.choice([b"load ", b"save "]) + b"p" * (PATH_ROOM + more),
+            lambda: b"image " + self.long_list(IMAGE_ROOM),
             lambda: b"remove 1 " + b" ".join([self.digits(64), self.digits(64), b"1", self.field("STATE")]),
             lambda: b"image " + self.long_field(),
             lambda: b" ".join([b"state", self.number(), self.position()]),
-            self.long_field,
+            lambda: b"state 1 " + self.long_list(POSITIONS_ROOM),
+            lambda: b"help " + self.field("CALL"),
+            lambda: self.r.choice([b"load ", b"fresh ", b"fee ", b"help ", b"remove 1 ", b"state "]) + self.long_field() + self.r.choice([b"", b"\r"]),
+            lambda: self.long_field() + self.r.choice([b"", b"\r"]),
         ])()
 
     def other_line(self):
-        kind = self.r.randrange(10)
-        if kind < 5:
+        kind = self.r.randrange(12)
+        if kind < 4:
             return self.any_line()
-        if kind < 7:
+        if kind < 6:
             return self.r.choice([b"save ", b"load "]) + self.field("PATH")
-        if self.r.random() < .5:
+        if kind < 10:
             return self.rare_line()
         return self.r.choice([b"", b"   ", b"# " + self.r.randbytes(20).replace(b"\n", b""), b"#", b"unknown", b"show", b"nonzero", b"NEW 1 1",
-                              b"new 1 1\r", b"\tnew 1 1", self.r.choice(WRONG_LINES), b"#" * 140_000, b" " * 140_000 + b"nonzero", b"nonzero" + b" " * 140_000])
+                              b"new 1 1\r", b"\tnew 1 1", b"\r", b"  \r", b"\r\r", b"\rnonzero", b"nonzero \r", b"nonzero\r ", b"help", b"help\r", b"quit", b"quit\r", b"quit 1",
+                              self.r.choice(WRONG_LINES), b"#" * 140_000, b" " * 140_000 + b"nonzero", b"nonzero" + b" " * 140_000, b"nonzero" + b" " * 140_000 + b"\r"])
 
     def changed_lines(self, lines):
         at = self.r.randrange(len(lines))
-        kind = self.r.randrange(12)
+        kind = self.r.randrange(13)
         if kind < 5:
             lines[at] = self.changed_field(lines[at])
+        elif kind == 12:
+            lines[at] += self.r.choice([b"\r", b"\r", b" \r", b"\r\r", b"\r "])
         elif kind < 8:
             lines.insert(at, self.other_line())
         elif kind == 8:
@@ -245,8 +296,8 @@ class Damage:
         lines = self.right()
         for _ in range(self.r.choice([0, 1, 1, 1, 2, 4])):
             lines = self.changed_lines(lines)
-        ends = self.r.choice([b"\n"] * 30 + [b"\r\n", b" \n", b"\n\n"])
-        data = ends.join(lines) + self.r.choice([b"\n", b"\n", b""])
+        ends = self.r.choice([b"\n"] * 30 + [b"\r\n"] * 4 + [b" \n", b"\n\n", b"  \r\n", b"\r\r\n", b"\n\r\n"])
+        data = ends.join(lines) + self.r.choice([b"\n", b"\n", b"", b"\r", b"\r\n"])
         if self.r.random() < .35:
             data = self.changed_bytes(data)
         return data

@@ -95,9 +95,10 @@ class History:
             return
         if self.meant and not within:
             raise Wrong("an accepted payment is beyond the totals, and the list says that none is")
-        delegator, publisher = map(int, values[:2])
+        delegator, publisher, *_, fall = map(int, values)
+        self.clause(fall == delegator + (0 if fields[5] == "none" else publisher), f"parts {delegator} and {publisher}, custody falls by {fall}")
         self.paid += delegator + publisher
-        self.custody -= delegator + (0 if fields[5] == "none" else publisher)
+        self.custody -= fall
         for (epoch, *place), amount in draws.items():
             if tuple(place) in self.totals[epoch]:
                 self.totals[epoch][tuple(place)][1] += amount

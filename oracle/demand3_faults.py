@@ -69,6 +69,9 @@ class Faults:
     def publishers_part(self):
         return self.value("payment", 2)
 
+    def custodys_fall(self):
+        return self.value("payment", 6)
+
     def claimable(self):
         return self.word(self.bump(1))
 

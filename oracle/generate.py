@@ -6,14 +6,13 @@ are fresh, advance and forecast; payments.py adds its own, levels.py says how of
 import random
 
 import model
+from image import IMAGE_ROOM, MESSAGE_ROOM
 from model import HALF, WORD, Advance
 from states import States
 
 EDGES = [0, 1, 2, HALF - 1, HALF, HALF + 1, WORD - 2, WORD - 1]
 SCALES = [10, 1_000, 10**6, 10**9, 10**9, 10**12, 10**12, 2**40, 2**50, 2**56, 2**61, HALF]
 LARGE = 20_000      # words; such an image is not looked at after each call
-ROOM = 174_551      # the most words that a journal's image may have
-MESSAGE_ROOM = 40_972
 
 
 def key_of(text):
@@ -357,10 +356,10 @@ class Generator:
         """Of another length, or with an n out of range."""
         a, words = self.plain(), self.site.words
         n = self.site.pool().n
-        kinds = [words[:-1], (words + [0])[:ROOM], [], words[:self.r.randrange(len(words))], (words + words)[:ROOM],
+        kinds = [words[:-1], (words + [0])[:IMAGE_ROOM], [], words[:self.r.randrange(len(words))], (words + words)[:IMAGE_ROOM],
                  words[:n] + [self.r.choice([HALF, HALF + 1, WORD - 1])] + words[n + 1:]]
-        if self.r.random() < .01:
-            kinds = [words + [0] * (ROOM - len(words))]
+        if self.r.random() < .03:
+            kinds = [words + [0] * (IMAGE_ROOM - len(words))]
         self.journal.put(self.r.choice(kinds + kinds[-1:]))
         self.all_calls(a)
         self.journal.put(words)
@@ -372,7 +371,7 @@ class Generator:
         self.journal.say(f"new {p} {e}")
         self.all_calls(a)
         count = model.length(p, e) % WORD
-        self.journal.put([0] * count if count <= ROOM and self.r.random() < .5 else words)
+        self.journal.put([0] * count if count <= IMAGE_ROOM and self.r.random() < .5 else words)
         self.all_calls(a)
         self.journal.say(f"new {self.p} {self.e}")
         self.journal.put(words)

@@ -5,6 +5,8 @@ M = 1_000_000
 WORD = 2**64
 HALF = 2**63
 MOST_POSITIONS = 256
+# What is kept of a long field, one more than the library accepts: a message's bytes, the words of positions and of an image.
+MESSAGE_ROOM, POSITIONS_ROOM, IMAGE_ROOM = 40_972, 9 * (MOST_POSITIONS + 1), 174_552
 ZERO_KEY = bytes(32)
 
 
@@ -98,6 +100,21 @@ def positions_of(words):
     return [Position(*w[:5], b"".join(x.to_bytes(8, "little") for x in w[5:])) for w in nines]
 
 
-def numbers_of(field):
-    """A word list of the journal."""
-    return [] if field == "-" else list(map(int, field.split(",")))
+def message_of(field):
+    """A message of the journal, as far as it is kept."""
+    return b"" if field == "-" else bytes.fromhex(field[:2 * MESSAGE_ROOM])
+
+
+def numbers_of(field, room=POSITIONS_ROOM):
+    """A word list of the journal, as far as it is kept; a key is its four words."""
+    if field == "-":
+        return []
+    items = field.split(",", room)[:room]
+    if "0x" not in field:
+        return list(map(int, items))
+    words = []
+    for item in items:
+        if len(words) >= room:
+            break
+        words += words_of(bytes.fromhex(item[2:])) if item.startswith("0x") else [int(item)]
+    return words[:room]

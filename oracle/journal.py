@@ -5,6 +5,7 @@ import re
 import subprocess
 from typing import NamedTuple, Optional
 
+import forms
 import model
 import operations
 
@@ -22,6 +23,12 @@ WRONG = "the journal's forms"       # a wrong line; the oracle's wording is its 
 CALLS = {"fresh": "watch", "advance": "watch", "forecast": "watch", "payment": "pay", **dict.fromkeys(operations.NAMES, "operate"), "state": "operate"}
 
 
+def name_of(text):
+    """A right line's call, or none where it is passed over."""
+    name, *_ = text.split(None, 1) or ["#"]
+    return None if name.startswith("#") else name
+
+
 class Line(NamedTuple):
     text: str
     answer: Optional[str]       # the model's; none for a comment
@@ -29,7 +36,11 @@ class Line(NamedTuple):
     rust: Optional[str]         # what the oracle must answer; none where that says nothing
 
     def name(self):
-        return self.text.split(" ", 1)[0]
+        return name_of(self.text)
+
+    def gives_image(self):
+        """Whether the image is another one behind it, whatever it was."""
+        return self.name() == "new" or (self.name() == "image" and len(self.text.split(None, 1)) > 1)
 
 
 class Journal:
@@ -44,7 +55,7 @@ class Journal:
         self.lines.append(Line("# " + text, None, None, None))
 
     def decides(self, name, answer):
-        if name == "show":
+        if name in ("show", "help"):
             return OUTSIDE
         if name in CALLS and answer in ("refused 1", "refused 3", "refused 4", "refused 5"):
             return OUTSIDE
@@ -60,13 +71,13 @@ class Journal:
 
     def say(self, text):
         """One more line; answers what the model answers. A call finds the same image on both sides."""
-        name, *fields = text.split(" ", 1)
+        name, *fields = text.split(None, 1)
         of_pool = name in CALLS and name != "state"
         if self.apart and of_pool:
             self.put(self.site.words)
         if name == "new" or (name == "image" and fields):
             self.apart = False
-        answer = self.site.answer(text)
+        answer = forms.helped(*text.split()[1:]) if name == "help" else self.site.answer(text)
         self.calls += of_pool
         self.states += name == "state"
         decides = self.decides(name, answer)
@@ -92,11 +103,11 @@ class Journal:
 
 
 def answers(text, written):
-    """The lines that a program wrote when given a text, those of one answer as one: `ok N` to `show` has N lines more."""
-    names = (line.split()[0] for line in text.split("\n") if line.strip(" ") and not line.lstrip(" ").startswith("#"))
+    """The lines that a program wrote when given a text, those of one answer as one: `ok N` to `show` or `help` has N lines more."""
+    names = filter(None, map(name_of, text.split("\n")))
     written, found = iter(written), []
     for line in written:
-        table = next(names, None) == "show" and re.fullmatch("ok ([0-9]+)", line)
+        table = next(names, None) in ("show", "help") and re.fullmatch("ok ([0-9]+)", line)
         found.append("\n".join([line, *itertools.islice(written, int(table[1]) if table else 0)]))
     return found
 

@@ -10,8 +10,8 @@ from typing import NamedTuple, Optional
 
 import operations
 import show
-from image import (HALF, M, MOST_POSITIONS, WORD, ZERO_KEY, Listed, Pool, Refused, in_range, length, numbers_of, positions_of, refuse,
-                   words_of)
+from image import (HALF, IMAGE_ROOM, M, MOST_POSITIONS, WORD, ZERO_KEY, Listed, Pool, Refused, in_range, length, message_of, numbers_of,
+                   positions_of, refuse, words_of)
 
 MOST_Y = 10_000
 
@@ -296,13 +296,13 @@ class Site:
         return pool, stake_account, both, reads * len(matching)
 
     def payment(self, p):
-        """Item 8: those of `earned`, then 16, 17, 18."""
+        """Item 8: those of `earned`, then 16, 17, 18. The last value is custody's fall."""
         pool, stake_account, both, reads = self.earned(p)
         refuse(16, sum(both) > pool.words[1])
         refuse(17, stake_account != (ZERO_KEY if p.publisher_account is None else p.publisher_account))
         refuse(18, p.publisher_account is not None and p.custody_flag == 0)
         self.words = [p.now, pool.words[1] - sum(both)] + pool.words[2:]
-        return [*both, p.now, p.next_index, reads]
+        return [*both, p.now, p.next_index, reads, both[0] if p.publisher_account is None else sum(both)]
 
     def state(self, epoch, words):
         """Item 6 of one position, and of no pool: refusals 4, for an empty one too, and 13."""
@@ -320,11 +320,19 @@ class Site:
         self.words = words
         return [len(words)]
 
+    def load(self, content):
+        """A file's bytes, as far as an image is kept; 1 where they end within a word."""
+        content = content[:8 * IMAGE_ROOM]
+        refuse(1, len(content) % 8)
+        return self.image([int.from_bytes(content[at:at + 8], "little") for at in range(0, len(content), 8)])
+
+    def saved(self):
+        """The bytes of the image's file; 1 where the calls on it would be refused so."""
+        return b"".join(word.to_bytes(8, "little") for word in self.pool().checked().words)
+
     def values(self, name, fields):
         if name in ("advance", "forecast"):
-            numbers, digits = fields[:4], fields[4]
-            message = b"" if digits == "-" else bytes.fromhex(digits)
-            return getattr(self, name)(Advance(*map(int, numbers), message, self.seconds))
+            return getattr(self, name)(Advance(*map(int, fields[:4]), message_of(fields[4]), self.seconds))
         if name == "payment":
             return self.payment(payment_of(fields, self.unlocking))
         if name == "state":
@@ -336,7 +344,7 @@ class Site:
         if name == "show":
             return [show.answer(self.pool().checked())]
         if name == "image" and fields:
-            return self.image(numbers_of(fields[0]))
+            return self.image(numbers_of(fields[0], IMAGE_ROOM))
         if name == "image":
             return self.words
         if name in ("new", "settings", "fresh"):

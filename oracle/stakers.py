@@ -152,12 +152,12 @@ class Stakers(Changes):
         return Payment(self.last(), publisher, staker.account, *staker.record(publisher), other, 1, staker.words(), self.unlocking)
 
     def pay_out(self, staker, p):
-        """Says it; custody falls by both parts with a key, by the delegator's alone with none."""
+        """Says it; the answer has the record, and by how much custody falls."""
         answer = self.say(line(p))
         if answer[0] == "ok":
-            delegator, publisher, *record = map(int, answer[1:5])
-            staker.records[p.publisher] = record
-            self.balance -= delegator + (0 if p.publisher_account is None else publisher)
+            *_, epoch, index, _, fall = map(int, answer[1:])
+            staker.records[p.publisher] = [epoch, index]
+            self.balance -= fall
 
     def settle(self):
         """The stakers are paid, in any order; some sleep."""

@@ -55,9 +55,10 @@ fn forecast(pool: &Pool, a: &Advance) -> Asked<String> {
     Ok(format!(" {aside}"))
 }
 
-/// advance_delegation_record.
+/// advance_delegation_record; custody falls by what the handler's transfers take from it.
 fn payment(pool: &Pool, p: &Payment) -> Asked<String> {
     set_now(p.now);
+    given::FALLEN.with(|f| f.set(0));
     let z = Pubkey::default();
     let held = positions(&p.positions, z);
     let before = pool.borrow().claimable_rewards;
@@ -68,7 +69,8 @@ fn payment(pool: &Pool, p: &Payment) -> Asked<String> {
     let publisher = before - pool.claimable_rewards - delegator;
     let list = &held.borrow().positions;
     let reads = derived::reads(&pool, p.record.last_epoch, &p.publisher, list);
-    Ok(format!(" {delegator} {publisher}{record} {reads}"))
+    let fall = given::FALLEN.with(|f| f.get());
+    Ok(format!(" {delegator} {publisher}{record} {reads} {fall}"))
 }
 
 /// delegate.

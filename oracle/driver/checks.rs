@@ -14,6 +14,11 @@ use {
 /// The Rust takes a step for each passed epoch; an advance over more of them isn't asked.
 const MOST_EPOCHS: u64 = 100_000;
 
+/// Check 1.
+pub fn image(site: &Site) -> bool {
+    site.pool().is_some_and(|held| held.borrow().num_events < 1 << 63)
+}
+
 /// Check 3.
 pub fn message(m: &[u8]) -> bool {
     if !(11..=40_971).contains(&m.len()) {
@@ -72,14 +77,14 @@ pub fn pass(site: &Site, call: &Call) -> bool {
     let Some(held) = site.pool() else {
         return false;
     };
-    let pool = held.borrow();
     // a fresh pool's n isn't looked at
     if matches!(call, Call::Fresh(_)) {
         return true;
     }
-    if pool.num_events >= 1 << 63 {
+    if !image(site) {
         return false;
     }
+    let pool = held.borrow();
     match call {
         Call::Advance(a) | Call::Forecast(a) => advance(&pool, a),
         Call::Payment(p) => positions(&p.positions),

@@ -6,7 +6,7 @@ use {
         },
         journal::{Advance, Change, Payment, SetStakeAccount, Slash},
     },
-    anchor_lang::prelude::Pubkey,
+    anchor_lang::{given, prelude::Pubkey},
     integrity_pool::{accounts_door as doors, state::pool::PoolData},
     publisher_caps::PublisherCaps,
     staking::state::{
@@ -44,7 +44,7 @@ pub fn advance<'a>(
     }
 }
 
-/// `held` are the positions of the account that is paid.
+/// `held` are the positions of the account that is paid; what leaves the reward custody is noted.
 pub fn advance_delegation_record<'a>(
     pool: &'a Pool,
     p: &'a Payment,
@@ -56,7 +56,7 @@ pub fn advance_delegation_record<'a>(
         stake_account_positions: loader(&p.account, held),
         pool_data: loader(z, pool),
         pool_config: pool_config(z, 0, *z),
-        pool_reward_custody: token(z, 0),
+        pool_reward_custody: token(&given::CUSTODY, 0),
         stake_account_custody: token(z, 0),
         publisher: info(&p.publisher),
         publisher_stake_account_positions: p.publisher_account.as_ref().map(info),

@@ -8,10 +8,18 @@ use {
 /// What is wrong with a line.
 pub type Read<T> = std::result::Result<T, &'static str>;
 
-/// Rooms of the program that the journal is written for.
+/// How much of a long field is kept: one more than the library accepts. What stands behind that is
+/// not looked at.
 const MESSAGE_ROOM: usize = 40_972;
 const POSITIONS_ROOM: usize = 257 * 9;
-pub const IMAGE_ROOM: usize = 174_551;
+pub const IMAGE_ROOM: usize = 174_552;
+
+/// The calls that `help` can be asked about.
+const CALLS: [&str; 20] = [
+    "new", "settings", "image", "nonzero", "load", "save", "fresh", "advance", "forecast", "payment",
+    "add", "remove", "create-slash-event", "slash", "fee", "stake-account", "show", "state", "help",
+    "quit",
+];
 
 pub struct Advance {
     pub now:      u64,
@@ -104,6 +112,10 @@ fn key_of(field: &[u8]) -> Read<Pubkey> {
     bytes.map(Pubkey::from).ok_or("not a key")
 }
 
+fn words_of(key: Pubkey) -> impl Iterator<Item = u64> {
+    (0..4).map(move |i| u64::from_le_bytes(key.to_bytes()[8 * i..8 * i + 8].try_into().unwrap()))
+}
+
 /// The fields of a line that are still to be read.
 pub struct Fields<'a>(&'a [u8]);
 
@@ -148,23 +160,27 @@ impl<'a> Fields<'a> {
     pub fn message(&mut self) -> Read<Vec<u8>> {
         match self.field()? {
             b"-" => Ok(Vec::new()),
-            field if field.len() > 2 * MESSAGE_ROOM => Err("a message too long"),
-            field => hex(field).ok_or("not a message"),
+            field => hex(&field[..field.len().min(2 * MESSAGE_ROOM)]).ok_or("not a message"),
         }
     }
 
+    /// Item by item, as long as there is room: a number, or `0x` and a key.
     fn words(&mut self, room: usize) -> Read<Vec<u64>> {
         let field = self.field()?;
-        if field == b"-" {
-            return Ok(Vec::new());
-        }
         let mut words = Vec::new();
-        for item in field.split(|b| *b == b',') {
-            if words.len() == room {
-                return Err("too many words");
-            }
-            words.push(decimal(item)?);
+        if field == b"-" {
+            return Ok(words);
         }
+        for item in field.split(|b| *b == b',') {
+            if words.len() >= room {
+                break;
+            }
+            match item.strip_prefix(b"0x") {
+                Some(digits) => words.extend(words_of(key_of(digits)?)),
+                None => words.push(decimal(item)?),
+            }
+        }
+        words.truncate(room);
         Ok(words)
     }
 
@@ -176,6 +192,13 @@ impl<'a> Fields<'a> {
     pub fn image(&mut self) -> Read<Option<Vec<u64>>> {
         let ended = self.0.iter().all(|b| *b == b' ');
         if ended { Ok(None) } else { self.words(IMAGE_ROOM).map(Some) }
+    }
+
+    /// The call of `help CALL`, unless the line has ended.
+    pub fn help(&mut self) -> Read<()> {
+        let name = self.take();
+        let known = name.is_empty() || CALLS.iter().any(|call| call.as_bytes() == name);
+        if known { self.end() } else { Err("an unknown call") }
     }
 
     pub fn state(&mut self) -> Read<PositionState> {

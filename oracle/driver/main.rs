@@ -67,6 +67,13 @@ fn image(site: &mut Site, f: &mut Fields) -> Result<Answer, &'static str> {
     })
 }
 
+/// Whether the image may be saved is known for the sizes that this binary was built for.
+fn save(site: &Site, f: &mut Fields) -> Result<Answer, End> {
+    let path = path(f)?;
+    site.fits().map_err(End::NotOurs)?;
+    Ok(site.save(path)?)
+}
+
 /// The lines that the Rust answers.
 fn question(site: &mut Site, name: &[u8], f: &mut Fields) -> Result<Answer, End> {
     match name {
@@ -100,10 +107,12 @@ fn answer(site: &mut Site, line: &[u8]) -> Result<Option<Answer>, End> {
         b"settings" => two_numbers(&mut f).map(|(s, u)| site.settings(s, u))?,
         b"image" => image(site, &mut f)?,
         b"nonzero" => f.end().map(|()| site.nonzero())?,
-        // Nothing of the Rust says how a pool is shown.
+        // Nothing of the Rust says how a pool is shown, nor how the calls are told.
         b"show" => f.end().map(|()| Answer::Outside(None))?,
+        b"help" => f.help().map(|()| Answer::Outside(None))?,
         b"load" => path(&mut f).and_then(|p| site.load(p))?,
-        b"save" => path(&mut f).and_then(|p| site.save(p))?,
+        b"save" => save(site, &mut f)?,
+        b"quit" => f.end().map(|()| Answer::Quit)?,
         _ => question(site, name, &mut f)?,
     }))
 }
@@ -111,6 +120,7 @@ fn answer(site: &mut Site, line: &[u8]) -> Result<Option<Answer>, End> {
 fn show(out: &mut impl Write, line: u64, answer: Answer) -> std::io::Result<()> {
     match answer {
         Answer::Ok(values) => writeln!(out, "ok{values}"),
+        Answer::Quit => writeln!(out, "ok"),
         Answer::Refused(n) => writeln!(out, "refused {n}"),
         Answer::Outside(note) => {
             if let Some(note) = note {
@@ -134,9 +144,15 @@ fn run(site: &mut Site, out: &mut impl Write) -> Result<(), End> {
             return Ok(());
         }
         site.line += 1;
+        // one carriage return at a line's end is passed over
         let text = line.strip_suffix(b"\n").unwrap_or(&line);
+        let text = text.strip_suffix(b"\r").unwrap_or(text);
         if let Some(answer) = answer(site, text)? {
+            let over = matches!(answer, Answer::Quit);
             show(out, site.line, answer)?;
+            if over {
+                return Ok(());
+            }
         }
     }
 }

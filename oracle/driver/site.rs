@@ -14,13 +14,14 @@ use {
         },
     },
     staking::utils::clock::UNLOCKING_DURATION,
-    std::{cell::RefCell, fmt::Write, fs, ops::Range, path::Path},
+    std::{cell::RefCell, fmt::Write, fs, io::Read, ops::Range, path::Path},
 };
 
 const P: u64 = MAX_PUBLISHERS as u64;
 const E: u64 = MAX_EVENTS as u64;
 const WORDS: usize = length(P, E);
 const EVENTS: Range<usize> = 2 + 12 * MAX_PUBLISHERS..WORDS - 2 * MAX_PUBLISHERS - 1;
+const UNWRITTEN: &str = "the file can't be written";
 const _: () = assert!(size_of::<PoolData>() == 8 * WORDS && align_of::<PoolData>() == 8);
 
 /// Document 01's words in all; 0 for a P or E out of range.
@@ -43,6 +44,8 @@ pub enum Answer {
     /// The values, each after a space.
     Ok(String),
     Refused(u32),
+    /// The run ends here.
+    Quit,
     /// Not for the Rust, or, with a note, an end whose number isn't decided.
     Outside(Option<String>),
 }
@@ -183,24 +186,33 @@ impl Site {
         Answer::Ok(s)
     }
 
+    /// As far as an image is kept; a file that ends within a word is refused.
     pub fn load(&mut self, path: &Path) -> std::result::Result<Answer, &'static str> {
-        let bytes = fs::read(path).map_err(|_| "the file can't be read")?;
-        match words_of(&bytes) {
-            Some(image) if image.len() <= IMAGE_ROOM => Ok(self.put_image(image)),
-            _ => Err("the file is no image"),
-        }
+        let mut bytes = Vec::new();
+        let most = 8 * IMAGE_ROOM as u64;
+        let read = fs::File::open(path).and_then(|file| file.take(most).read_to_end(&mut bytes));
+        read.map_err(|_| "the file can't be read")?;
+        Ok(words_of(&bytes).map_or(Answer::Refused(1), |image| self.put_image(image)))
     }
 
-    /// Through a second name, so that a cut run leaves the old file or the new one.
+    /// Through a second name of its own, so that a cut run leaves the old file or the new one. Only a
+    /// regular file is written over.
     pub fn save(&self, path: &Path) -> std::result::Result<Answer, &'static str> {
+        if !checks::image(self) {
+            return Ok(Answer::Refused(1));
+        }
+        if fs::symlink_metadata(path).is_ok_and(|at| !at.is_file()) {
+            return Err(UNWRITTEN);
+        }
         let mut second = path.as_os_str().to_owned();
-        second.push(".new");
-        let written = fs::File::create(&second).and_then(|mut file| {
+        second.push(format!(".{}.0.new", std::process::id()));
+        let made = fs::OpenOptions::new().write(true).create_new(true).open(&second);
+        let written = made.and_then(|mut file| {
             std::io::Write::write_all(&mut file, &self.with_image(bytes_of))?;
             file.sync_all()?;
             fs::rename(&second, path)
         });
-        written.map_err(|_| "the file can't be written")?;
+        written.map_err(|_| UNWRITTEN)?;
         Ok(self.image_length())
     }
 

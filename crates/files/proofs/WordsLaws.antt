@@ -55,7 +55,8 @@ bytes-all l out i h a b e =
 
 -- eight stores
 pub stored : (out : List ℕ) (w : ℕ) → length out ≡ 8
-    → set (set (set (set (set (set (set (set out 0 (w % 256)) 1 (w / 0x100 % 256)) 2 (w / 0x1_0000 % 256)) 3 (w / 0x100_0000 % 256)) 4 (w / 0x1_0000_0000 % 256)) 5 (w / 0x100_0000_0000 % 256)) 6 (w / 0x1_0000_0000_0000 % 256)) 7 (w / 0x100_0000_0000_0000 % 256) ≡ eight w
+    → set (set (set (set (set (set (set (set out 0 (w % 256)) 1 (w / 0x100 % 256)) 2 (w / 0x1_0000 % 256)) 3 (w / 0x100_0000 % 256))
+    4 (w / 0x1_0000_0000 % 256)) 5 (w / 0x100_0000_0000 % 256)) 6 (w / 0x1_0000_0000_0000 % 256)) 7 (w / 0x100_0000_0000_0000 % 256) ≡ eight w
 unfolding eight
 stored [] w l = absurd (omega arith)
 stored (a ∷ []) w l = absurd (omega arith)

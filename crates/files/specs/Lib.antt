@@ -1,3 +1,3 @@
 pub mod Words
 pub mod Name
-pub mod Saved
+pub mod Answers

@@ -1,207 +1,103 @@
 // An image as a file of little-endian words.
+mod name;
+mod read;
+mod second;
 mod words;
+mod write;
 
-ghost use mathlib.Core.Path.{_≡_};
-ghost use mathlib.Core.Bool.{true};
-ghost use Prim.Native.Nat.{_≤_, _*_};
+ghost use Prim.Native.Nat.{_≤_};
 ghost use lib.ListN.{length};
-ghost use Rattle.files.specs.Name.{NameMade};
-ghost use Rattle.files.specs.Saved.{isSaveAnswer};
-use journal::fields;
+ghost use Rattle.files.specs.Answers.{countOf, LongRefused};
+ghost use Rattle.files.specs.Name.{FolderOf};
+use file_type::FileType;
+use text::items;
 
-// How many words were loaded, and what was wrong, or 0.
-pub struct Loaded {
-    pub count: usize,
-    pub what: u8,
+// What a load came to: how many words stand at the start of the room, a file that ends within a word, or one that can't be read.
+pub enum Loaded {
+    Words(usize),
+    NotWhole,
+    CannotRead,
 }
 
-// How many bytes were read, and whether a read failed.
-struct Bytes {
-    count: usize,
-    failed: bool,
+// What a save came to: the file is the new one; it can't be written, and stays as it was; it is the new one, but its folder's entry
+// may not have reached the disk.
+pub enum Saved {
+    Done,
+    CannotWrite,
+    FolderUnwritten,
 }
 
-// One read.
-fn read_some(fd: i32, room: &mut [u8]) -> Bytes
-    ensures { λ r. ⌜ r .count ≤ length (now (room .entry)) ⌝ }
-{
-    let got = libc::read(fd, room);
-    Bytes {
-        count: io::count(got, room),
-        failed: got < 0,
-    }
-}
-
-// Reads until the buffer is full, the file ends or a read fails.
-fn read_full(fd: i32, buffer: &mut [u8]) -> Bytes
-    ensures { λ r. ⌜ r .count ≤ length (now (buffer .entry)) ⌝ }
-{
-    let mut done = 0;
-    while done < buffer.len() {
-        let more = read_some(fd, &mut buffer[done..]);
-        let n = more.count;
-        if n == 0 {
-            return Bytes {
-                count: done,
-                failed: more.failed,
-            };
-        }
-        done += n;
-    }
-    Bytes {
-        count: done,
-        failed: false,
-    }
-}
-
-fn cannot_load(what: u8) -> Loaded
-    ensures { λ r. ⌜ r .count ≡ 0 ⌝ }
-{
-    Loaded { count: 0, what }
-}
-
-// The next words of a file, at the start of `rest`; none at its end.
-fn load_some(fd: i32, buffer: &mut [u8], rest: &mut [u64]) -> Loaded
-    ensures { λ r. ⌜ r .count ≤ length (now (rest .entry)) ⌝ }
-{
-    let read = read_full(fd, &mut buffer[..]);
-    if read.failed {
-        return cannot_load(fields::NO_FILE);
-    }
-    let n = read.count;
-    let count = n / 8;
-    if count * 8 != n {
-        return cannot_load(fields::NOT_WORDS);
-    }
-    if rest.len() < count {
-        return cannot_load(fields::LONG_FILE);
-    }
-    words::take_words(&buffer[..n], &mut rest[..count]);
-    Loaded { count, what: 0 }
-}
-
-// The words of an open file, at the start of `pool`.
-fn load_all(fd: i32, buffer: &mut [u8], pool: &mut [u64]) -> Loaded
-    ensures { λ r. ⌜ r .count ≤ length (now (pool .entry)) ⌝ }
-{
-    let mut count = 0;
-    loop {
-        let more = load_some(fd, &mut buffer[..], &mut pool[count..]);
-        let n = more.count;
-        if n == 0 {
-            return Loaded {
-                count,
-                what: more.what,
-            };
-        }
-        count += n;
-    }
-}
-
-// The words of a file, at the start of `pool`.
-pub fn load(path: &[u8], pool: &mut [u64]) -> Loaded
-    ensures { λ r. ⌜ r .count ≤ length (now (pool .entry)) ⌝ }
+// The words of a file, at the start of `room`. What is behind the room is not read.
+pub fn load(path: &[u8], room: &mut [u64]) -> Loaded
+    ensures { λ r. ⌜ countOf r ≤ length (now (room .entry)) ⌝ }
 {
     let fd = os::open_read(path);
     if fd < 0 {
-        return cannot_load(fields::NO_FILE);
+        return Loaded::CannotRead;
     }
     let mut buffer = io::large_buffer();
-    let done = load_all(fd, &mut buffer, pool);
+    let done = read::load_all(fd, &mut buffer, room);
     libc::close(fd);
     done
 }
 
-// Writes words by way of a buffer that has room for them.
-fn save_some(fd: i32, buffer: &mut [u8], part: &[u64]) -> bool
-    requires { ⌜ length (now part) * 8 ≤ length (now buffer) ⌝ }
+// How many bytes of a path are its folder's name: those before the last `/`, or that one where it is the first byte; 0 where there is none.
+fn folder_of(path: &[u8]) -> usize
+    ensures { λ r. ⌜ FolderOf (now (path .entry)) r ⌝ }
 {
-    let n = part.len() * 8;
-    words::give_words(part, &mut buffer[..n]);
-    io::write_all(fd, &buffer[..n])
-}
-
-fn lesser(a: usize, b: usize) -> usize
-    ensures { λ r. ⌜ (r ≤ a) × (r ≤ b) ⌝ }
-{
-    if a < b { a } else { b }
-}
-
-// Writes all words to an open file, and sees that they are kept.
-fn save_all(fd: i32, buffer: &mut [u8], pool: &[u64]) -> bool
-    requires { ⌜ 65536 ≤ length (now buffer) ⌝ }
-{
-    let mut from = 0;
-    while from < pool.len() {
-        let n = lesser(pool.len() - from, 8192);
-        if n == 0 {
-            return false;
-        }
-        let to = from + n;
-        if !save_some(fd, &mut buffer[..], &pool[from..to]) {
-            return false;
-        }
-        from = to;
-    }
-    libc::fsync(fd) == 0
-}
-
-// Writes the words to the file `second`, which then becomes the file `path`. Where a step fails, `second` is removed and `path` stays.
-fn save_as(path: &[u8], second: &[u8], pool: &[u64]) -> u8
-    ensures { λ r. ⌜ isSaveAnswer r ≡ true ⌝ }
-{
-    let fd = os::open_overwrite(second);
-    if fd < 0 {
-        return fields::CANNOT_WRITE;
-    }
-    let mut buffer = io::large_buffer();
-    let done = save_all(fd, &mut buffer, pool);
-    let closed = libc::close(fd);
-    if done {
-        if closed == 0 {
-            if os::rename(second, path) == 0 {
-                return 0;
-            }
-        }
-    }
-    os::unlink(second);
-    fields::CANNOT_WRITE
-}
-
-// The second name of a file, four bytes longer, at the start of `out`; 0 bytes where it has no room.
-fn second_name(path: &[u8], out: &mut [u8]) -> usize
-    ensures { λ r. ⌜ NameMade (now (path .entry)) (now (out .entry)) (now (out .exit)) r ⌝ }
-{
-    let n = path.len();
-    if out.len() < 4 {
+    let at = items::last(path, b'/');
+    if at == path.len() {
         return 0;
     }
-    if out.len() - 4 < n {
-        return 0;
+    if at == 0 {
+        return 1;
     }
-    fields::path(path, &mut out[..]);
-    out[n] = b'.';
-    out[n + 1] = b'n';
-    out[n + 2] = b'e';
-    out[n + 3] = b'w';
-    n + 4
+    at
 }
 
-// Saves by way of a second name, for which `space` is lent.
-fn save_by(path: &[u8], space: &mut [u8], pool: &[u64]) -> u8
-    ensures { λ r. ⌜ isSaveAnswer r ≡ true ⌝ }
-{
-    let n = second_name(path, &mut space[..]);
+// Opens the folder of a path for reading.
+fn open_folder(path: &[u8]) -> i32 {
+    let n = folder_of(path);
     if n == 0 {
-        return fields::CANNOT_WRITE;
+        return os::open_read(b".");
     }
-    save_as(path, &space[..n], pool)
+    os::open_read(&path[..n])
 }
 
-// The file becomes the words: 0, or what was wrong, when it stays as it was.
-pub fn save(path: &[u8], pool: &[u64]) -> u8
-    ensures { λ r. ⌜ isSaveAnswer r ≡ true ⌝ }
+// The file becomes the words, and its folder, which is open, is written through.
+fn save_in(folder: i32, path: &[u8], pool: &[u64]) -> Saved
+    ensures { λ r. ⌜ LongRefused (now (path .entry)) r ⌝ }
 {
     let mut space = io::buffer();
-    save_by(path, &mut space, pool)
+    if !second::save_by(path, &mut space[..4095], pool) {
+        return Saved::CannotWrite;
+    }
+    if libc::fsync(folder) != 0 {
+        return Saved::FolderUnwritten;
+    }
+    Saved::Done
+}
+
+// Opens the folder before anything is made, and closes it behind the rest.
+fn save_there(path: &[u8], pool: &[u64]) -> Saved
+    ensures { λ r. ⌜ LongRefused (now (path .entry)) r ⌝ }
+{
+    let folder = open_folder(path);
+    if folder < 0 {
+        return Saved::CannotWrite;
+    }
+    let done = save_in(folder, path, pool);
+    libc::close(folder);
+    done
+}
+
+// The file becomes the words. A regular file is written over, and nothing else.
+pub fn save(path: &[u8], pool: &[u64]) -> Saved
+    ensures { λ r. ⌜ LongRefused (now (path .entry)) r ⌝ }
+{
+    match file_type::file_type(path) {
+        FileType::Nothing => save_there(path, pool),
+        FileType::Regular => save_there(path, pool),
+        FileType::Other => Saved::CannotWrite,
+    }
 }

@@ -1,8 +1,15 @@
 // Words as eight bytes each, the lowest first.
 ghost use mathlib.Core.Path.{_≡_};
-ghost use Prim.Native.Nat.{_+_, _*_, _^_, _≤_, _<_};
+ghost use Prim.Native.Nat.{_+_, _*_, _^_, _≤_, _<_, min};
 ghost use lib.ListN.{length};
 ghost use Rattle.files.specs.Words.{wordAt, wordsOf, eight, bytesOf};
+
+// How many of the words that are left go through a buffer of 65,536 bytes at once.
+pub fn at_once(left: usize) -> usize
+    ensures { λ r. ⌜ r ≡ min left 8192 ⌝ }
+{
+    if left < 8192 { left } else { 8192 }
+}
 
 // A byte as a word; the caller learns its range.
 fn widened(x: u8) -> u64

@@ -10,7 +10,7 @@ use lib.Seq.{getD-append-add}
 use borrow.Author.Tests.{eq-eqb, ne-eqb}
 use Rattle.text.specs.Items.{items, placeOf}
 use Rattle.text.proofs.ItemsLaws.{place-within}
-use Rattle.journal.specs.Calls.{names, callCount, callOf, none, w, fields, kindOf, wholeOf}
+use Rattle.journal.specs.Calls.{names, callCount, callOf, none, w, c, fields, kindOf, wholeOf}
 
 -- a row of n kinds
 abbrev row : ℕ → List ℕ → List ℕ
@@ -59,9 +59,14 @@ module _ (call k next : ℕ) (is : next ≡ kindOf call k) where
   unfolding wholeOf
   whole-none e = rw (← is, eq-eqb _ _ e)
 
-  pub whole-words : (next ≡ none → ⊥) → eqb next w ≡ wholeOf call k
-  unfolding wholeOf
-  whole-words e = rw (← is, ne-eqb _ _ e)
+  module _ (n : next ≡ none → ⊥) where
+    pub whole-call : next ≡ c → true ≡ wholeOf call k
+    unfolding wholeOf
+    whole-call e = rw (← is, ne-eqb _ _ n, eq-eqb _ _ e)
+
+    pub whole-words : (next ≡ c → ⊥) → eqb next w ≡ wholeOf call k
+    unfolding wholeOf
+    whole-words e = rw (← is, ne-eqb _ _ n, ne-eqb _ _ e)
 
 -- the names as the bytes of one list, a space between two
 abbrev pub spaced : List (List ℕ) → List ℕ

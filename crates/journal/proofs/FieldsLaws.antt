@@ -13,23 +13,24 @@ use borrow.Author.Tests.{eq-eqb, ne-eqb, eqb-true, le-leb, lt-leb, le-ltb, lt-lt
 use Rattle.text.specs.declared.Number.{Number}
 use Rattle.text.specs.declared.Number.the-variants.{Value, NoDigits, NotDigit, TooLarge}
 use Rattle.text.specs.declared.BytesRead.{BytesRead}
-use Rattle.text.specs.declared.BytesRead.the-variants.{Count, NotBytes, TooMany}
+use Rattle.text.specs.declared.BytesRead.the-variants.{Count, NotBytes}
 use Rattle.text.specs.declared.KeyRead.{KeyRead}
-use Rattle.text.specs.declared.KeyRead.the-variants.{Is, NotKey}
+use Rattle.text.specs.declared.KeyRead.the-variants.{Is}
+use Rattle.text.specs.declared.KeyRead.the-variants.{NotKey as NoKey}
 use Rattle.text.specs.declared.items.WordsRead.{WordsRead}
-use Rattle.text.specs.declared.items.WordsRead.the-variants.{Words, NotWord, LargeWord, ManyWords}
+use Rattle.text.specs.declared.items.WordsRead.the-variants.{Words, NotWord, LargeWord, NotKey}
 use Rattle.text.specs.Decimal.{numberOf}
 use Rattle.text.specs.Hex.{bytesOf, spelled}
 use Rattle.text.specs.Key.{keyOf}
 use Rattle.text.specs.Items.{same, items, placeOf}
 use Rattle.text.specs.Words.{dash, comma, wordsOf, numbers, laid, listOf, listed}
 use Rattle.text.proofs.HexLaws.{bytes-count}
-use Rattle.text.proofs.WordsLaws.{words-within, list-within}
+use Rattle.text.proofs.WordsLaws.{words-fit, words-within, list-within}
 use Rattle.journal.proofs.CallsLaws.{spaced}
 use Rattle.journal.specs.Held.{Parted}
-use Rattle.journal.specs.Calls.{n, o, wholeOf}
+use Rattle.journal.specs.Calls.{n, o, callOf, wholeOf}
 use Rattle.journal.specs.Calls as calls
-use Rattle.journal.specs.Fields.{whatOf, put, whatKey, putKey, states, stateOf, whatState, putState, noneName, isNone, whatValue, putValue, MessageRead, PathRead, countWords, whatWords, partOf, parted, ListRead, roomOf, unendedOf, cutOf, wrongField}
+use Rattle.journal.specs.Fields.{whatOf, put, whatKey, putKey, states, stateOf, whatState, putState, whatCall, putCall, noneName, isNone, whatValue, putValue, MessageRead, PathRead, countWords, whatWords, partOf, parted, ListRead, roomOf, unendedOf, cutOf, wrongField}
 
 -- a number that is read as r
 module _ (r x : Number) (is : r ≡ x) (k : ℕ) (l : List ℕ) where
@@ -50,7 +51,7 @@ module _ (r x : KeyRead) (is : r ≡ x) (k : ℕ) (l : List ℕ) where
   pub key-is : (a b c d : ℕ) → r ≡ Is a b c d → (0 ≡ whatKey x) × (putKey (Is a b c d) k l ≡ putKey x k l)
   key-is a b c d e = rw (← is, e) (refl, refl)
 
-  pub key-not : r ≡ NotKey → (16 ≡ whatKey x) × (l ≡ putKey x k l)
+  pub key-not : r ≡ NoKey → (13 ≡ whatKey x) × (l ≡ putKey x k l)
   key-not e = rw (← is, e) (refl, refl)
 
 -- the names of the states as the bytes of one list
@@ -63,11 +64,19 @@ module _ (name : List ℕ) (r : ℕ) (is : r ≡ placeOf name (items 32 (spaced 
   read-as : r ≡ stateOf name
   read-as = rw states-spaced at is
 
-  pub state-not : r ≡ 0 → (17 ≡ whatState (stateOf name)) × (l ≡ putState (stateOf name) k l)
+  pub state-not : r ≡ 0 → (14 ≡ whatState (stateOf name)) × (l ≡ putState (stateOf name) k l)
   state-not e = rw (← read-as, eq-eqb _ _ e) (refl, refl)
 
   pub state-is : (r ≡ 0 → ⊥) → (0 ≡ whatState (stateOf name)) × (set l k r ≡ putState (stateOf name) k l)
   state-is n = rw (← read-as, ne-eqb _ _ n) (refl, refl)
+
+-- a call that is read as r
+module _ (r x : ℕ) (is : r ≡ x) (k : ℕ) (l : List ℕ) where
+  pub call-not : r ≡ 0 → (1 ≡ whatCall x) × (l ≡ putCall x k l)
+  call-not e = rw (← is, eq-eqb _ _ e) (refl, refl)
+
+  pub call-is : (r ≡ 0 → ⊥) → (0 ≡ whatCall x) × (set l k r ≡ putCall x k l)
+  call-is n = rw (← is, ne-eqb _ _ n) (refl, refl)
 
 module _ (kind : ℕ) (s : List ℕ) where
   pub none-not : (kind ≡ o → ⊥) → false ≡ isNone kind s
@@ -92,15 +101,21 @@ module _ (kind : ℕ) (s : List ℕ) where
     unfolding whatValue putValue
     value-state what new m e is = rw (ne-eqb _ _ m, eq-eqb _ _ e) is
 
-    pub value-none : (r : Bool) → (kind ≡ n → ⊥) → (kind ≡ calls.s → ⊥) → r ≡ isNone kind s → r ≡ true → Told 0 (set l k 0)
+    pub value-call :
+        (what : ℕ) (new : List ℕ) → (kind ≡ n → ⊥) → (kind ≡ calls.s → ⊥) → kind ≡ calls.c →
+        (what ≡ whatCall (callOf s)) × (new ≡ putCall (callOf s) k l) → Told what new
     unfolding whatValue putValue
-    value-none r m o is t = rw (ne-eqb _ _ m, ne-eqb _ _ o, ← is, t) (refl, refl)
+    value-call what new m o e is = rw (ne-eqb _ _ m, ne-eqb _ _ o, eq-eqb _ _ e) is
 
-    pub value-key :
-        (r : Bool) (what : ℕ) (new : List ℕ) → (kind ≡ n → ⊥) → (kind ≡ calls.s → ⊥) → r ≡ isNone kind s → r ≡ false →
-        (what ≡ whatKey (keyOf s)) × (new ≡ putKey (keyOf s) k l) → Told what new
-    unfolding whatValue putValue
-    value-key r what new m o is t q = rw (ne-eqb _ _ m, ne-eqb _ _ o, ← is, t) q
+    -- neither a number, nor a state, nor a call
+    module _ (m : kind ≡ n → ⊥) (o : kind ≡ calls.s → ⊥) (p : kind ≡ calls.c → ⊥) (r : Bool) (is : r ≡ isNone kind s) where
+      pub value-none : r ≡ true → Told 0 (set l k 0)
+      unfolding whatValue putValue
+      value-none t = rw (ne-eqb _ _ m, ne-eqb _ _ o, ne-eqb _ _ p, ← is, t) (refl, refl)
+
+      pub value-key : (what : ℕ) (new : List ℕ) → r ≡ false → (what ≡ whatKey (keyOf s)) × (new ≡ putKey (keyOf s) k l) → Told what new
+      unfolding whatValue putValue
+      value-key what new t q = rw (ne-eqb _ _ m, ne-eqb _ _ o, ne-eqb _ _ p, ← is, t) q
 
 module _ (s old : List ℕ) (d : Bool) (is : d ≡ same s dash) where
   pub message-dash : d ≡ true → MessageRead s old old 0 0
@@ -121,12 +136,6 @@ module _ (s old : List ℕ) (d : Bool) (is : d ≡ same s dash) where
         let b : bytesOf s (length old) ≡ NotBytes = sym read ∙ q in
         record { within = omega arith; counted = rw (e, b); judged = rw (e, b); kept = rw (e, ← read) left }
 
-    pub message-long : r ≡ TooMany → MessageRead s old new 0 7
-    message-long q =
-        let e : same s dash ≡ false = sym is ∙ no in
-        let b : bytesOf s (length old) ≡ TooMany = sym read ∙ q in
-        record { within = omega arith; counted = rw (e, b); judged = rw (e, b); kept = rw (e, ← read) left }
-
 -- one byte more of a copy
 pub paste-more : (old s : List ℕ) (i : ℕ) (new : List ℕ) → i < length old → i < length s → new ≡ paste old 0 s i
     → set new i (getD s i 0) ≡ paste old 0 s (i + 1)
@@ -135,7 +144,7 @@ paste-more old s i new h k e =
     (subst (λ (j : ℕ). set (paste old 0 s i) j (getD s i 0) ≡ paste old 0 s (suc i)) (zero-add i) (paste-suc old 0 s i 0 (omega arith) k))
 
 module _ (s old : List ℕ) where
-  pub path-long : length old < length s → PathRead s old old 0 9
+  pub path-long : length old < length s → PathRead s old old 0 7
   path-long h =
       let e = lt-leb (length s) (length old) h in record { within = omega arith; counted = rw e; judged = rw e; kept = rw e }
 
@@ -151,13 +160,13 @@ within-room : (r : WordsRead) (room : ℕ) → ((n : ℕ) → r ≡ Words n → 
 within-room (Words n) room h = h n refl
 within-room NotWord room h = omega arith
 within-room LargeWord room h = omega arith
-within-room ManyWords room h = omega arith
+within-room NotKey room h = omega arith
 
 some-words : (r : WordsRead) → ((n : ℕ) → r ≡ Words n → 0 < n) → whatWords r ≡ 0 → 0 < countWords r
 some-words (Words n) h e = h n refl
 some-words NotWord h e = absurd (omega arith)
 some-words LargeWord h e = absurd (omega arith)
-some-words ManyWords h e = absurd (omega arith)
+some-words NotKey h e = absurd (omega arith)
 
 module _ (s old new : List ℕ) (r : WordsRead) (count what : ℕ) (told : (count ≡ countWords r) × (what ≡ whatWords r)) where
   pub list-whole : (whole : Bool) → whole ≡ true → r ≡ listOf s (length old) → new ≡ listed s old → ListRead whole s old new count what
@@ -165,7 +174,7 @@ module _ (s old new : List ℕ) (r : WordsRead) (count what : ℕ) (told : (coun
   list-whole whole t e k =
       record {
         within = rw (told .0) (within-room r (length old) (λ n q. list-within s (length old) n (sym e ∙ q)));
-        grows = λ f z. let b : _≡_ {A = ℕ} 0 1 = cc in absurd (omega arith);
+        grows = λ f p z. let b : _≡_ {A = ℕ} 0 1 = cc in absurd (omega arith);
         counted = rw (t, ← e) (told .0);
         judged = rw (t, ← e) (told .1);
         kept = rw t k;
@@ -177,8 +186,8 @@ module _ (s old new : List ℕ) (r : WordsRead) (count what : ℕ) (told : (coun
   unfolding partOf parted
   list-part whole t e k =
       record {
-        within = rw (told .0) (within-room r (length old) (λ n q. words-within comma s (length old) n (sym e ∙ q) .1));
-        grows = λ f z. rw (told .0) (some-words r (λ n q. words-within comma s (length old) n (sym e ∙ q) .0) (sym (told .1) ∙ z));
+        within = rw (told .0) (within-room r (length old) (λ n q. words-fit (items comma s) (length old) 0 n (sym e ∙ q)));
+        grows = λ f p z. rw (told .0) (some-words r (λ n q. words-within comma s (length old) n p (sym e ∙ q) .0) (sym (told .1) ∙ z));
         counted = rw (t, ← e) (told .0);
         judged = rw (t, ← e) (told .1);
         kept = rw t k;
@@ -202,18 +211,25 @@ module _ (kind left : ℕ) where
   pub room-less : kind ≡ calls.l → left ≤ 2313 → left ≡ roomOf kind left
   room-less e h = rw (eq-eqb _ _ e, le-ltb _ _ h)
 
-module _ (stop : ℕ) where
-  pub unended-long : stop ≡ 258 → 10 ≡ unendedOf stop
-  unended-long e = rw (eq-eqb _ _ e)
+module _ (kind stop : ℕ) where
+  pub unended-message : stop ≡ 258 → kind ≡ calls.m → 0 ≡ unendedOf kind stop
+  unfolding unendedOf
+  unended-message e f = rw (eq-eqb _ _ e, eq-eqb _ _ f)
 
-  pub unended-failed : (stop ≡ 258 → ⊥) → stop ≡ 257 → 11 ≡ unendedOf stop
+  pub unended-long : stop ≡ 258 → (kind ≡ calls.m → ⊥) → 8 ≡ unendedOf kind stop
+  unfolding unendedOf
+  unended-long e n = rw (eq-eqb _ _ e, ne-eqb _ _ n)
+
+  pub unended-failed : (stop ≡ 258 → ⊥) → stop ≡ 257 → 9 ≡ unendedOf kind stop
+  unfolding unendedOf
   unended-failed n e = rw (ne-eqb _ _ n, eq-eqb _ _ e)
 
-  pub unended-not : (stop ≡ 258 → ⊥) → (stop ≡ 257 → ⊥) → 0 ≡ unendedOf stop
+  pub unended-not : (stop ≡ 258 → ⊥) → (stop ≡ 257 → ⊥) → 0 ≡ unendedOf kind stop
+  unfolding unendedOf
   unended-not n m = rw (ne-eqb _ _ n, ne-eqb _ _ m)
 
 module _ (call k stop : ℕ) where
-  pub cut-failed : stop ≡ 257 → 11 ≡ cutOf call k stop
+  pub cut-failed : stop ≡ 257 → 9 ≡ cutOf call k stop
   unfolding cutOf
   cut-failed e = rw (eq-eqb _ _ e)
 

@@ -27,18 +27,20 @@ names =
     ∷ (115 ∷ 116 ∷ 97 ∷ 107 ∷ 101 ∷ 45 ∷ 97 ∷ 99 ∷ 99 ∷ 111 ∷ 117 ∷ 110 ∷ 116 ∷ [])  -- stake-account
     ∷ (115 ∷ 104 ∷ 111 ∷ 119 ∷ [])  -- show
     ∷ (115 ∷ 116 ∷ 97 ∷ 116 ∷ 101 ∷ [])  -- state
+    ∷ (104 ∷ 101 ∷ 108 ∷ 112 ∷ [])  -- help
+    ∷ (113 ∷ 117 ∷ 105 ∷ 116 ∷ [])  -- quit
     ∷ []
 
 -- how many calls there are, the one that is none counted too
 abbrev pub callCount : ℕ
-callCount = 19
+callCount = 21
 
 -- the call of a name; 0 for a name that is not there
 abbrev pub callOf : List ℕ → ℕ
 callOf name = placeOf name names 1
 
 -- kinds of fields, each a letter: `n` a number, `k` a key, `o` a key or none, `s` a position's state, `m` a message, `p` a path, `l` a list of
--- positions, `w` the words of an image, `.` no field
+-- positions, `w` the words of an image, `c` a call, `.` no field
 abbrev pub n : ℕ
 n = 110
 
@@ -62,6 +64,9 @@ l = 108
 
 abbrev pub w : ℕ
 w = 119
+
+abbrev pub c : ℕ
+c = 99
 
 abbrev pub none : ℕ
 none = 46
@@ -88,12 +93,14 @@ fields =
     ∷ (k ∷ k ∷ k ∷ o ∷ o ∷ l ∷ o ∷ l ∷ [])  -- stake-account PUBLISHER SIGNER AUTHORITY OLD OLD_OWNER OLD_POSITIONS NEW NEW_POSITIONS
     ∷ []  -- show
     ∷ (n ∷ l ∷ [])  -- state EPOCH POSITION
+    ∷ (c ∷ [])  -- help CALL
+    ∷ []  -- quit
     ∷ []
 
 -- the kind of field i of a call
 unfoldable pub kindOf : (call i : ℕ) → ℕ
 kindOf call i = getD (getD fields call []) i none
 
--- whether a call with i fields is whole: none is left, or only the words that `image` may have
+-- whether a call with i fields is whole: none is left, or only the call that `help` may have, or the words that `image` may
 unfoldable pub wholeOf : (call i : ℕ) → Bool
-wholeOf call i = cond (eqb (kindOf call i) none) true (eqb (kindOf call i) w)
+wholeOf call i = cond (eqb (kindOf call i) none) true (cond (eqb (kindOf call i) c) true (eqb (kindOf call i) w))

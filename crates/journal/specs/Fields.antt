@@ -9,20 +9,24 @@ use lib.Seq.{paste}
 use Rattle.text.specs.declared.Number.{Number}
 use Rattle.text.specs.declared.Number.the-variants.{Value, NoDigits, NotDigit, TooLarge}
 use Rattle.text.specs.declared.BytesRead.{BytesRead}
-use Rattle.text.specs.declared.BytesRead.the-variants.{Count, NotBytes, TooMany}
+use Rattle.text.specs.declared.BytesRead.the-variants.{Count, NotBytes}
 use Rattle.text.specs.declared.KeyRead.{KeyRead}
-use Rattle.text.specs.declared.KeyRead.the-variants.{Is, NotKey}
+use Rattle.text.specs.declared.KeyRead.the-variants.{Is}
+use Rattle.text.specs.declared.KeyRead.the-variants.{NotKey as NoKey}
 use Rattle.text.specs.declared.items.WordsRead.{WordsRead}
-use Rattle.text.specs.declared.items.WordsRead.the-variants.{Words, NotWord, LargeWord, ManyWords}
+use Rattle.text.specs.declared.items.WordsRead.the-variants.{Words, NotWord, LargeWord, NotKey}
 use Rattle.text.specs.Decimal.{numberOf}
 use Rattle.text.specs.Hex.{bytesOf, spelled}
 use Rattle.text.specs.Key.{keyOf}
 use Rattle.text.specs.Items.{same, items, placeOf}
 use Rattle.text.specs.Words.{dash, comma, wordsOf, numbers, laid, listOf, listed}
-use Rattle.journal.specs.Calls.{wholeOf}
+use Rattle.journal.specs.Calls.{callOf, wholeOf}
 use Rattle.journal.specs.Calls as calls
 
 -- what is wrong, 0 being nothing
+abbrev pub unknownCall : ℕ
+unknownCall = 1
+
 abbrev pub tooFew : ℕ
 tooFew = 2
 
@@ -38,32 +42,26 @@ largeNumber = 5
 abbrev pub notMessage : ℕ
 notMessage = 6
 
-abbrev pub longMessage : ℕ
-longMessage = 7
-
-abbrev pub manyWords : ℕ
-manyWords = 8
-
 abbrev pub longPath : ℕ
-longPath = 9
+longPath = 7
 
 abbrev pub longField : ℕ
-longField = 10
+longField = 8
 
 abbrev pub noInput : ℕ
-noInput = 11
+noInput = 9
 
 abbrev pub notKey : ℕ
-notKey = 16
+notKey = 13
 
 abbrev pub notState : ℕ
-notState = 17
+notState = 14
 
 abbrev pub noOwner : ℕ
-noOwner = 18
+noOwner = 15
 
 abbrev pub noAccount : ℕ
-noAccount = 19
+noAccount = 16
 
 -- a number
 abbrev pub whatOf : Number → ℕ
@@ -82,13 +80,13 @@ put TooLarge k l = l
 -- a key
 abbrev pub whatKey : KeyRead → ℕ
 whatKey (Is a b c d) = 0
-whatKey NotKey = notKey
+whatKey NoKey = notKey
 
 -- a list in which word k says that there is a key, and its words stand from 10 + k * 4 on
 abbrev pub putKey : KeyRead → (k : ℕ) → List ℕ → List ℕ
 putKey (Is a b c d) k l =
     set (set (set (set (set l k 1) (10 + k * 4) a) (10 + k * 4 + 1) b) (10 + k * 4 + 2) c) (10 + k * 4 + 3) d
-putKey NotKey k l = l
+putKey NoKey k l = l
 
 -- the states in ASCII, state 1 first
 abbrev pub states : List (List ℕ)
@@ -110,6 +108,13 @@ whatState state = cond (eqb state 0) notState 0
 abbrev pub putState : (state k : ℕ) → List ℕ → List ℕ
 putState state k l = cond (eqb state 0) l (set l k state)
 
+-- a call by its number; 0 for a name that is none's
+abbrev pub whatCall : (call : ℕ) → ℕ
+whatCall call = cond (eqb call 0) unknownCall 0
+
+abbrev pub putCall : (call k : ℕ) → List ℕ → List ℕ
+putCall call k l = cond (eqb call 0) l (set l k call)
+
 -- `none` in place of a key
 abbrev pub noneName : List ℕ
 noneName = 110 ∷ 111 ∷ 110 ∷ 101 ∷ []
@@ -117,27 +122,31 @@ noneName = 110 ∷ 111 ∷ 110 ∷ 101 ∷ []
 unfoldable pub isNone : (kind : ℕ) → List ℕ → Bool
 isNone kind s = cond (eqb kind calls.o) (same s noneName) false
 
--- a field of one value: a number, a state, a key, or a key or none, which is 0
+-- a field of one value: a number, a state, a call, a key, or a key or none, which is 0
 unfoldable pub whatValue : (kind : ℕ) → List ℕ → ℕ
 whatValue kind s =
-    cond (eqb kind calls.n) (whatOf (numberOf s)) (cond (eqb kind calls.s) (whatState (stateOf s)) (cond (isNone kind s) 0 (whatKey (keyOf s))))
+    cond (eqb kind calls.n)
+    (whatOf (numberOf s))
+    (cond (eqb kind calls.s)
+    (whatState (stateOf s))
+    (cond (eqb kind calls.c) (whatCall (callOf s)) (cond (isNone kind s) 0 (whatKey (keyOf s)))))
 
 unfoldable pub putValue : (kind : ℕ) → List ℕ → (k : ℕ) → List ℕ → List ℕ
 putValue kind s k l =
     cond (eqb kind calls.n)
     (put (numberOf s) k l)
-    (cond (eqb kind calls.s) (putState (stateOf s) k l) (cond (isNone kind s) (set l k 0) (putKey (keyOf s) k l)))
+    (cond (eqb kind calls.s)
+    (putState (stateOf s) k l)
+    (cond (eqb kind calls.c) (putCall (callOf s) k l) (cond (isNone kind s) (set l k 0) (putKey (keyOf s) k l))))
 
 -- a message: how many bytes it has, and what is wrong; `-` is the empty one
 abbrev pub countIn : BytesRead → ℕ
 countIn (Count n) = n
 countIn NotBytes = 0
-countIn TooMany = 0
 
 abbrev pub whatIn : BytesRead → ℕ
 whatIn (Count n) = 0
 whatIn NotBytes = notMessage
-whatIn TooMany = longMessage
 
 pub record MessageRead (s old new : List ℕ) (count what : ℕ) : Type 0 where
   pub within : count ≤ length old
@@ -157,15 +166,15 @@ abbrev pub countWords : WordsRead → ℕ
 countWords (Words n) = n
 countWords NotWord = 0
 countWords LargeWord = 0
-countWords ManyWords = 0
+countWords NotKey = 0
 
 abbrev pub whatWords : WordsRead → ℕ
 whatWords (Words n) = 0
 whatWords NotWord = notNumber
 whatWords LargeWord = largeNumber
-whatWords ManyWords = manyWords
+whatWords NotKey = notKey
 
--- a list, or a part of one, which has a word at least
+-- a list, or a part of one, which has a word at least where there is room
 unfoldable pub partOf : (whole : Bool) → List ℕ → (room : ℕ) → WordsRead
 partOf whole s room = cond whole (listOf s room) (wordsOf (items comma s) room 0)
 
@@ -174,7 +183,7 @@ parted whole s out = cond whole (listed s out) (laid (numbers (items comma s)) 0
 
 pub record ListRead (whole : Bool) (s old new : List ℕ) (count what : ℕ) : Type 0 where
   pub within : count ≤ length old
-  pub grows : whole ≡ false → what ≡ 0 → 0 < count
+  pub grows : whole ≡ false → 0 < length old → what ≡ 0 → 0 < count
   pub counted : count ≡ countWords (partOf whole s (length old))
   pub judged : what ≡ whatWords (partOf whole s (length old))
   pub kept : new ≡ parted whole s old
@@ -183,9 +192,9 @@ pub record ListRead (whole : Bool) (s old new : List ℕ) (count what : ℕ) : T
 abbrev pub roomOf : (kind left : ℕ) → ℕ
 roomOf kind left = cond (eqb kind calls.l) (cond (ltb 2313 left) 2313 left) left
 
--- an item that no byte ended: the buffer is full (258), a read failed (257), or the input ended
-abbrev pub unendedOf : (stop : ℕ) → ℕ
-unendedOf stop = cond (eqb stop 258) longField (cond (eqb stop 257) noInput 0)
+-- an item that no byte ended: the buffer is full (258), which a message may go beyond, a read failed (257), or the input ended
+unfoldable pub unendedOf : (kind stop : ℕ) → ℕ
+unendedOf kind stop = cond (eqb stop 258) (cond (eqb kind calls.m) 0 longField) (cond (eqb stop 257) noInput 0)
 
 -- a call that ends after k fields
 unfoldable pub cutOf : (call k stop : ℕ) → ℕ

@@ -2,6 +2,7 @@
 ghost use Prim.Native.Nat.{_≤_, _<_};
 ghost use lib.ListN.{length};
 ghost use Rattle.journal.specs.Held.{Writable};
+use crate::calls::COUNT;
 use crate::fields;
 use crate::output;
 use crate::output::Pen;
@@ -91,15 +92,12 @@ fn reason(out: &mut [u8], pen: Pen, what: u8) -> Pen
         not a number\n\
         a number too large\n\
         not a message\n\
-        a message too long\n\
-        too many words\n\
         a path too long\n\
         a field too long\n\
         the input can't be read\n\
         the file can't be read\n\
-        the file is too long\n\
-        the file is not whole words\n\
         the file can't be written\n\
+        the folder can't be written through\n\
         not a key\n\
         not a state\n\
         an account without its owner\n\
@@ -152,21 +150,10 @@ fn item(out: &mut [u8], pen: Pen, table: &[u8], from: usize) -> Pen
     next
 }
 
-// Item k of a row, a space before it; nothing for item 0, the call's name.
-fn field_name(out: &mut [u8], pen: Pen, table: &[u8], row: usize, k: usize) -> Pen
-    requires { ⌜ Writable (pen .at) (length (now out)) × (row ≤ length (now table)) ⌝ }
-    ensures { λ r. ⌜ r .at ≤ length (now (out .entry)) ⌝ }
-{
-    if k == 0 {
-        return pen;
-    }
-    let gap = output::byte(&mut out[..], pen, b' ');
-    let at = item_of(table, row, k);
-    item(out, gap, table, at)
-}
+// Of a call's row item k, the call's name being item 0; or with ROW the row, and the line's end.
+const ROW: usize = 10;
 
-// A call's name and its field's, the first field being 1; field 0 is none.
-fn place(out: &mut [u8], pen: Pen, call: usize, field: usize) -> Pen
+fn call_text(out: &mut [u8], pen: Pen, call: usize, k: usize) -> Pen
     requires { ⌜ Writable (pen .at) (length (now out)) ⌝ }
     ensures { λ r. ⌜ r .at ≤ length (now (out .entry)) ⌝ }
 {
@@ -189,10 +176,105 @@ fn place(out: &mut [u8], pen: Pen, call: usize, field: usize) -> Pen
         fee FEE\n\
         stake-account PUBLISHER SIGNER AUTHORITY OLD OLD_OWNER OLD_POSITIONS NEW NEW_POSITIONS\n\
         show\n\
-        state EPOCH POSITION\n";
-    let row = row_of(calls, call);
-    let name = item(&mut out[..], pen, calls, row);
-    let whole = field_name(&mut out[..], name, calls, row, field);
+        state EPOCH POSITION\n\
+        help CALL\n\
+        quit\n";
+    let from = row_of(calls, call);
+    if k == ROW {
+        return row(out, pen, calls, from);
+    }
+    let at = item_of(calls, from, k);
+    item(out, pen, calls, at)
+}
+
+// What a call answers, and the line's end.
+fn answer_text(out: &mut [u8], pen: Pen, call: usize) -> Pen
+    requires { ⌜ Writable (pen .at) (length (now out)) ⌝ }
+    ensures { λ r. ⌜ r .at ≤ length (now (out .entry)) ⌝ }
+{
+    let answers: &[u8] = b"\
+        \n\
+        the image's length\n\
+        no value\n\
+        every word of the image; with WORDS its length\n\
+        I:W for each word W other than 0, I being its place\n\
+        the image's length\n\
+        the image's length\n\
+        no value\n\
+        y', set aside, rows matched, rows seated, rows dropped\n\
+        set aside\n\
+        delegator's part, publisher's part, record's epoch, next index, read count, custody's fall\n\
+        no value\n\
+        no value\n\
+        the slash event's epoch\n\
+        record's epoch, next index\n\
+        no value\n\
+        no value\n\
+        the number of lines that follow: the pool as a table\n\
+        the position's state\n\
+        the number of lines that follow: every call, or CALL and its answer\n\
+        no value; the run ends\n";
+    let from = row_of(answers, call);
+    row(out, pen, answers, from)
+}
+
+// Every call with its fields.
+fn help_all(out: &mut [u8], pen: Pen) -> Pen
+    requires { ⌜ Writable (pen .at) (length (now out)) ⌝ }
+    ensures { λ r. ⌜ r .at ≤ length (now (out .entry)) ⌝ }
+{
+    let mut next = ok(&mut out[..], pen, &[COUNT as u64 - 1]);
+    let mut call = 1;
+    while call < COUNT {
+        next = output::text(&mut out[..], next, b"  ");
+        next = call_text(&mut out[..], next, call, ROW);
+        call += 1;
+    }
+    next
+}
+
+// A call with its fields, and its answer.
+fn help_one(out: &mut [u8], pen: Pen, call: usize) -> Pen
+    requires { ⌜ Writable (pen .at) (length (now out)) ⌝ }
+    ensures { λ r. ⌜ r .at ≤ length (now (out .entry)) ⌝ }
+{
+    let a = ok(&mut out[..], pen, &[2]);
+    let b = output::text(&mut out[..], a, b"  ");
+    let c = call_text(&mut out[..], b, call, ROW);
+    let d = output::text(&mut out[..], c, b"  answer: ");
+    answer_text(out, d, call)
+}
+
+// Of a call, or with call 0 of all. The first line says how many follow.
+pub fn help(out: &mut [u8], pen: Pen, call: usize) -> Pen
+    requires { ⌜ Writable (pen .at) (length (now out)) ⌝ }
+    ensures { λ r. ⌜ r .at ≤ length (now (out .entry)) ⌝ }
+{
+    if call == 0 {
+        return help_all(out, pen);
+    }
+    help_one(out, pen, call)
+}
+
+// The name of a call's field, the first being 1, a space before it; nothing for field 0.
+fn field_name(out: &mut [u8], pen: Pen, call: usize, field: usize) -> Pen
+    requires { ⌜ Writable (pen .at) (length (now out)) ⌝ }
+    ensures { λ r. ⌜ r .at ≤ length (now (out .entry)) ⌝ }
+{
+    if field == 0 {
+        return pen;
+    }
+    let gap = output::byte(&mut out[..], pen, b' ');
+    call_text(out, gap, call, field)
+}
+
+// A call's name and its field's.
+fn place(out: &mut [u8], pen: Pen, call: usize, field: usize) -> Pen
+    requires { ⌜ Writable (pen .at) (length (now out)) ⌝ }
+    ensures { λ r. ⌜ r .at ≤ length (now (out .entry)) ⌝ }
+{
+    let name = call_text(&mut out[..], pen, call, 0);
+    let whole = field_name(&mut out[..], name, call, field);
     output::text(out, whole, b": ")
 }
 
@@ -210,7 +292,7 @@ fn named(out: &mut [u8], pen: Pen, call: usize, field: usize, what: u8) -> Pen
     place(out, pen, call, field)
 }
 
-// The line that ends a run: the line's number, the call and the field, and what is wrong with it. Call 0 is none, field 0 the line.
+// A wrong line: its number, the call and the field, and what is wrong with it. Call 0 is none, field 0 the line.
 pub fn wrong(out: &mut [u8], pen: Pen, line: u64, call: usize, field: usize, what: u8) -> Pen
     requires { ⌜ Writable (pen .at) (length (now out)) ⌝ }
     ensures { λ r. ⌜ r .at ≤ length (now (out .entry)) ⌝ }

@@ -39,6 +39,13 @@ pub const SHOW: usize = 17;
 
 pub const POSITION_STATE: usize = 18;
 
+pub const HELP: usize = 19;
+
+pub const QUIT: usize = 20;
+
+// How many calls there are, the one that is none counted too.
+pub const COUNT: usize = 21;
+
 // Kinds of fields.
 pub const NUMBER: u8 = b'n';
 
@@ -56,10 +63,12 @@ pub const POSITIONS: u8 = b'l';
 
 pub const WORDS: u8 = b'w';
 
+pub const CALL: u8 = b'c';
+
 pub const NONE: u8 = b'.';
 
 // A row of kinds for each call, from row 1 on. A call has at most nine fields, so that every row ends with none.
-const KINDS: [u8; 190] = *b"\
+const KINDS: [u8; 210] = *b"\
     ..........\
     nn........\
     nn........\
@@ -78,7 +87,9 @@ const KINDS: [u8; 190] = *b"\
     n.........\
     kkkoolol..\
     ..........\
-    nl........";
+    nl........\
+    c.........\
+    ..........";
 
 // The call of a name, 0 where there is none.
 pub fn call_of(s: &[u8]) -> usize
@@ -87,7 +98,8 @@ pub fn call_of(s: &[u8]) -> usize
     text::items::place(
         s,
         b"new settings image nonzero load save fresh advance forecast payment \
-          add remove create-slash-event slash fee stake-account show state",
+          add remove create-slash-event slash fee stake-account show state \
+          help quit",
     )
 }
 
@@ -106,6 +118,9 @@ pub fn whole(call: usize, k: usize) -> bool
 {
     let next = kind(call, k);
     if next == NONE {
+        return true;
+    }
+    if next == CALL {
         return true;
     }
     next == WORDS

@@ -5,7 +5,8 @@ ghost use lib.ListN.{length};
 ghost use Rattle.text.specs.Decimal.{numberOf};
 ghost use Rattle.text.specs.Key.{keyOf};
 ghost use Rattle.journal.specs.Held.{Unread, Parted};
-ghost use Rattle.journal.specs.Fields.{whatOf, put, whatKey, putKey, stateOf, whatState, putState, isNone, whatValue, putValue, MessageRead, PathRead, countWords, whatWords, ListRead, roomOf, unendedOf, wrongField};
+ghost use Rattle.journal.specs.Calls.{callOf};
+ghost use Rattle.journal.specs.Fields.{whatOf, put, whatKey, putKey, stateOf, whatState, putState, whatCall, putCall, isNone, whatValue, putValue, MessageRead, PathRead, countWords, whatWords, ListRead, roomOf, unendedOf, wrongField};
 use crate::calls;
 use crate::input;
 use text::BytesRead;
@@ -27,31 +28,25 @@ pub const LARGE_NUMBER: u8 = 5;
 
 pub const NOT_MESSAGE: u8 = 6;
 
-pub const LONG_MESSAGE: u8 = 7;
+pub const LONG_PATH: u8 = 7;
 
-pub const MANY_WORDS: u8 = 8;
+pub const LONG_FIELD: u8 = 8;
 
-pub const LONG_PATH: u8 = 9;
+pub const NO_INPUT: u8 = 9;
 
-pub const LONG_FIELD: u8 = 10;
+pub const NO_FILE: u8 = 10;
 
-pub const NO_INPUT: u8 = 11;
+pub const CANNOT_WRITE: u8 = 11;
 
-pub const NO_FILE: u8 = 12;
+pub const FOLDER_UNWRITTEN: u8 = 12;
 
-pub const LONG_FILE: u8 = 13;
+pub const NOT_KEY: u8 = 13;
 
-pub const NOT_WORDS: u8 = 14;
+pub const NOT_STATE: u8 = 14;
 
-pub const CANNOT_WRITE: u8 = 15;
+pub const NO_OWNER: u8 = 15;
 
-pub const NOT_KEY: u8 = 16;
-
-pub const NOT_STATE: u8 = 17;
-
-pub const NO_OWNER: u8 = 18;
-
-pub const NO_ACCOUNT: u8 = 19;
+pub const NO_ACCOUNT: u8 = 16;
 
 // The names of the states, a space between two, as a line's field has them and an answer.
 pub const STATES: [u8; 46] = *b"LOCKING LOCKED PREUNLOCKING UNLOCKING UNLOCKED";
@@ -144,6 +139,22 @@ fn state(s: &[u8], mut args: [u64; 50], k: usize) -> Values
     Values { args, what: 0 }
 }
 
+// A call by its name.
+fn call(s: &[u8], mut args: [u64; 50], k: usize) -> Values
+    requires { ⌜ k < 10 ⌝ }
+    ensures { λ r. ⌜ (r .what ≡ whatCall (callOf (now (s .entry)))) × (r .args ≡ putCall (callOf (now (s .entry))) k args) ⌝ }
+{
+    let call = calls::call_of(s);
+    if call == 0 {
+        return Values {
+            args,
+            what: UNKNOWN_CALL,
+        };
+    }
+    args[k] = call as u64;
+    Values { args, what: 0 }
+}
+
 // Whether a field says that there is no key.
 fn is_none(kind: u8, s: &[u8]) -> bool
     ensures { λ r. ⌜ r ≡ isNone kind (now (s .entry)) ⌝ }
@@ -154,7 +165,7 @@ fn is_none(kind: u8, s: &[u8]) -> bool
     items::same(s, b"none")
 }
 
-// A field of one value: a number, a state, a key, or a key or none.
+// A field of one value: a number, a state, a call, a key, or a key or none.
 pub fn value(kind: u8, s: &[u8], mut args: [u64; 50], k: usize) -> Values
     requires { ⌜ k < 10 ⌝ }
     ensures { λ r. ⌜ (r .what ≡ whatValue kind (now (s .entry))) × (r .args ≡ putValue kind (now (s .entry)) k args) ⌝ }
@@ -164,6 +175,9 @@ pub fn value(kind: u8, s: &[u8], mut args: [u64; 50], k: usize) -> Values
     }
     if kind == calls::STATE {
         return state(s, args, k);
+    }
+    if kind == calls::CALL {
+        return call(s, args, k);
     }
     if is_none(kind, s) {
         args[k] = 0;
@@ -184,10 +198,6 @@ pub fn message(s: &[u8], bytes: &mut [u8]) -> Stored
         BytesRead::NotBytes => Stored {
             count: 0,
             what: NOT_MESSAGE,
-        },
-        BytesRead::TooMany => Stored {
-            count: 0,
-            what: LONG_MESSAGE,
         },
     }
 }
@@ -211,11 +221,14 @@ pub fn path(s: &[u8], bytes: &mut [u8]) -> Stored
     Stored { count: n, what: 0 }
 }
 
-// What is wrong with an item that no byte ended, or 0.
-pub fn unended(stop: usize) -> u8
-    ensures { λ r. ⌜ r ≡ unendedOf stop ⌝ }
+// What is wrong with an item that no byte ended, or 0: of a message that the buffer can't hold the rest is passed over.
+pub fn unended(kind: u8, stop: usize) -> u8
+    ensures { λ r. ⌜ r ≡ unendedOf kind stop ⌝ }
 {
     if stop == input::TOO_LONG {
+        if kind == calls::MESSAGE {
+            return 0;
+        }
         return LONG_FIELD;
     }
     if stop == input::FAILED {
@@ -251,9 +264,9 @@ fn counted(read: WordsRead) -> Stored
             count: 0,
             what: LARGE_NUMBER,
         },
-        WordsRead::ManyWords => Stored {
+        WordsRead::NotKey => Stored {
             count: 0,
-            what: MANY_WORDS,
+            what: NOT_KEY,
         },
     }
 }
@@ -268,38 +281,45 @@ fn list(s: &[u8], whole: bool, out: &mut [u64]) -> Stored
     counted(items::words(s, out))
 }
 
-// How much of an item is a part: all of it, or what stands before the last comma where the buffer can't hold it.
-fn part_of(s: &[u8], stop: usize) -> usize
-    ensures { λ r. ⌜ r ≤ length (now (s .entry)) ⌝ }
+// The part of a list that the buffer can't hold, up to its last comma.
+fn cut_part(input: &[u8], from: usize, to: usize, end: usize, out: &mut [u64]) -> Listed
+    requires { ⌜ (from ≤ to) × Unread to end (length (now input)) × (0 < length (now out)) ⌝ }
+    ensures { λ r. ⌜ Parted (r .at) (r .end) (r .count) (r .more) (length (now (input .entry))) (length (now (out .entry))) ⌝ }
 {
-    if stop == input::TOO_LONG {
-        return items::last(s, b',');
+    let n = items::last(&input[from..to], b',');
+    if n == to - from {
+        return Listed {
+            count: 0,
+            at: to,
+            end,
+            more: false,
+            what: LONG_FIELD,
+        };
     }
-    s.len()
+    let cut = from + n;
+    let got = list(&input[from..cut], false, out);
+    Listed {
+        count: got.count,
+        at: cut + 1,
+        end,
+        more: got.what == 0,
+        what: got.what,
+    }
 }
 
-// The part of a word list that begins at `at`.
+// The part of a word list that begins at `at`: all of it, or what the buffer holds.
 fn part(input: &mut [u8], at: usize, upto: usize, first: bool, out: &mut [u64]) -> Listed
-    requires { ⌜ Unread at upto (length (now input)) ⌝ }
+    requires { ⌜ Unread at upto (length (now input)) × (0 < length (now out)) ⌝ }
     ensures { λ r. ⌜ Parted (r .at) (r .end) (r .count) (r .more) (length (now (input .entry))) (length (now (out .entry))) ⌝ }
 {
     let it = input::next_item(&mut input[..], at, upto);
     let from = it.from;
     let to = it.to;
     let end = it.end;
-    let n = part_of(&input[from..to], it.stop);
-    if n < to - from {
-        let cut = from + n;
-        let got = list(&input[from..cut], false, out);
-        return Listed {
-            count: got.count,
-            at: cut + 1,
-            end,
-            more: got.what == 0,
-            what: got.what,
-        };
+    if it.stop == input::TOO_LONG {
+        return cut_part(input, from, to, end, out);
     }
-    let unended = unended(it.stop);
+    let unended = unended(calls::WORDS, it.stop);
     if unended != 0 {
         return Listed {
             count: 0,
@@ -309,7 +329,8 @@ fn part(input: &mut [u8], at: usize, upto: usize, first: bool, out: &mut [u64]) 
             what: unended,
         };
     }
-    let got = list(&input[from..to], first, out);
+    let last = from + input::counted(&input[from..to], it.stop);
+    let got = list(&input[from..last], first, out);
     Listed {
         count: got.count,
         at: to,
@@ -319,7 +340,22 @@ fn part(input: &mut [u8], at: usize, upto: usize, first: bool, out: &mut [u64]) 
     }
 }
 
-// A word list, part by part.
+// A list whose room is full, `count` words: what is left of it is passed over.
+fn pass_rest(input: &mut [u8], at: usize, upto: usize, count: usize) -> Listed
+    requires { ⌜ Unread at upto (length (now input)) ⌝ }
+    ensures { λ r. ⌜ Unread (r .at) (r .end) (length (now (input .entry))) × (r .count ≡ count) ⌝ }
+{
+    let over = input::pass_over(input, at, upto, input::ITEM);
+    Listed {
+        count,
+        at: over.at,
+        end: over.end,
+        more: false,
+        what: unended(calls::WORDS, over.byte),
+    }
+}
+
+// A word list, part by part, as far as it has room.
 pub fn words(input: &mut [u8], start: usize, upto: usize, out: &mut [u64]) -> Listed
     requires { ⌜ Unread start upto (length (now input)) ⌝ }
     ensures { λ r. ⌜ Unread (r .at) (r .end) (length (now (input .entry))) × (r .count ≤ length (now (out .entry))) ⌝ }
@@ -327,7 +363,7 @@ pub fn words(input: &mut [u8], start: usize, upto: usize, out: &mut [u64]) -> Li
     let mut at = start;
     let mut end = upto;
     let mut count = 0;
-    loop {
+    while count < out.len() {
         let next = part(&mut input[..], at, end, count == 0, &mut out[count..]);
         at = next.at;
         end = next.end;
@@ -342,6 +378,7 @@ pub fn words(input: &mut [u8], start: usize, upto: usize, out: &mut [u64]) -> Li
             };
         }
     }
+    pass_rest(input, at, end, count)
 }
 
 // The room for a list, of what is left: a position list has its own.

@@ -3,7 +3,7 @@ ghost use Prim.Native.Nat.{_≤_, _<_};
 ghost use mathlib.Core.Path.{_≡_};
 ghost use lib.ListN.{length};
 ghost use Rattle.journal.specs.Held.{Unread, Found};
-ghost use Rattle.journal.specs.Bytes.{has};
+ghost use Rattle.journal.specs.Bytes.{has, isOver, endsAt, countedOf};
 
 // What stands where no byte does; each is above every byte.
 pub const END: usize = 256;
@@ -147,8 +147,28 @@ pub fn next_item(input: &mut [u8], at: usize, upto: usize) -> Item
     }
 }
 
-// Passes over spaces.
-pub fn next_byte(input: &mut [u8], start: usize, upto: usize) -> Peek
+// What is passed over: spaces, the rest of an item, or the rest of a line.
+pub const SPACES: u8 = 0;
+
+pub const ITEM: u8 = 1;
+
+pub const LINE: u8 = 2;
+
+// Whether a byte is passed over; a line's end never is.
+fn is_over(over: u8, byte: usize) -> bool
+    ensures { λ r. ⌜ r ≡ isOver over byte ⌝ }
+{
+    if byte == 10 {
+        return false;
+    }
+    if byte == 32 {
+        return over != ITEM;
+    }
+    over != SPACES
+}
+
+// Passes over bytes, and leaves the first one that stays to be read.
+pub fn pass_over(input: &mut [u8], start: usize, upto: usize, over: u8) -> Peek
     requires { ⌜ Unread start upto (length (now input)) ⌝ }
     ensures { λ r. ⌜ Found (r .at) (r .at) (r .end) (r .byte) (length (now (input .entry))) ⌝ }
 {
@@ -159,7 +179,7 @@ pub fn next_byte(input: &mut [u8], start: usize, upto: usize) -> Peek
         turns -= 1;
         if at < end {
             let byte = widened(input[at]);
-            if byte != 32 {
+            if !is_over(over, byte) {
                 return Peek { at, end, byte };
             }
             at += 1;
@@ -179,34 +199,82 @@ pub fn next_byte(input: &mut [u8], start: usize, upto: usize) -> Peek
     Peek { at, end, byte: END }
 }
 
-// Passes over the rest of a line, and leaves its end to be read.
-pub fn line_end(input: &mut [u8], start: usize, upto: usize) -> Peek
+// The byte behind a carriage return at `at`, which moves to the start where more must be read.
+fn behind(input: &mut [u8], at: usize, upto: usize) -> Peek
+    requires { ⌜ (at < upto) × (upto ≤ length (now input)) ⌝ }
+    ensures { λ r. ⌜ Found (r .at) (r .at) (r .end) (r .byte) (length (now (input .entry))) × (0 < r .at) ⌝ }
+{
+    let next = at + 1;
+    if next < upto {
+        return Peek {
+            at: next,
+            end: upto,
+            byte: widened(input[next]),
+        };
+    }
+    shift(&mut input[..], at, upto);
+    let read = more(&mut input[1..]);
+    let end = 1 + read.count;
+    if end == 1 {
+        return Peek {
+            at: 1,
+            end,
+            byte: read.none,
+        };
+    }
+    Peek {
+        at: 1,
+        end,
+        byte: widened(input[1]),
+    }
+}
+
+// Passes over spaces, and over a carriage return at the line's end.
+pub fn next_byte(input: &mut [u8], start: usize, upto: usize) -> Peek
     requires { ⌜ Unread start upto (length (now input)) ⌝ }
     ensures { λ r. ⌜ Found (r .at) (r .at) (r .end) (r .byte) (length (now (input .entry))) ⌝ }
 {
-    let mut at = start;
-    let mut end = upto;
-    let mut turns = u64::MAX;
-    while 0 < turns {
-        turns -= 1;
-        if at < end {
-            let byte = widened(input[at]);
-            if byte == 10 {
-                return Peek { at, end, byte };
-            }
-            at += 1;
-        } else {
-            let read = more(&mut input[..]);
-            at = 0;
-            end = read.count;
-            if end == 0 {
-                return Peek {
-                    at,
-                    end,
-                    byte: read.none,
-                };
-            }
-        }
+    let here = pass_over(&mut input[..], start, upto, SPACES);
+    if here.byte != 13 {
+        return here;
     }
-    Peek { at, end, byte: END }
+    let next = behind(input, here.at, here.end);
+    if ends(next.byte) {
+        return next;
+    }
+    Peek {
+        at: next.at - 1,
+        end: next.end,
+        byte: 13,
+    }
+}
+
+// Whether a line ends at a byte, or the input does.
+pub fn ends(stop: usize) -> bool
+    ensures { λ r. ⌜ r ≡ endsAt stop ⌝ }
+{
+    if stop == 10 {
+        return true;
+    }
+    255 < stop
+}
+
+// How much of an item counts: a carriage return at the line's end doesn't.
+pub fn counted(s: &[u8], stop: usize) -> usize
+    ensures { λ r. ⌜ (r ≡ countedOf (now (s .entry)) stop) × (r ≤ length (now (s .entry))) ⌝ }
+{
+    let n = s.len();
+    if n == 0 {
+        return 0;
+    }
+    if s[n - 1] != 13 {
+        return n;
+    }
+    if stop == 10 {
+        return n - 1;
+    }
+    if stop == END {
+        return n - 1;
+    }
+    n
 }

@@ -2,13 +2,14 @@
 ghost use mathlib.Core.Path.{_≡_};
 ghost use Prim.Native.Nat.{_≤_, _<_};
 ghost use lib.ListN.{length};
-ghost use Rattle.journal.specs.Held.{Unread, Filled, Reads, Stores};
+ghost use Rattle.journal.specs.Held.{Unread, Found, Filled, Reads, Stores};
 ghost use Rattle.journal.specs.Calls.{callCount};
 ghost use Rattle.journal.specs.Fields.{cutOf};
 use crate::calls;
 use crate::fields;
 use crate::fields::Stored;
 use crate::input;
+use crate::input::Item;
 
 // A call and what is read of its line: how many fields, its numbers and keys, how many bytes its message or path has, where the last list
 // begins and ends among the words, where the line goes on, what byte ended it, whether more is to be read, and what was wrong, or 0.
@@ -96,14 +97,6 @@ impl Line {
     }
 }
 
-// Whether a line ends at a byte, or the input does.
-fn ends(stop: usize) -> bool {
-    if stop == 10 {
-        return true;
-    }
-    255 < stop
-}
-
 // What is wrong with a call that ends after k fields, or 0.
 fn cut(call: usize, k: usize, stop: usize) -> u8
     requires { ⌜ (call < callCount) × (k < 10) ⌝ }
@@ -171,6 +164,40 @@ fn store(
     line.field(next, line.bytes, line.list, line.words, at, end, got.what)
 }
 
+// The item of field k as it was found; a carriage return at the line's end is no part of it.
+fn item_field(line: Line, kind: u8, k: usize, input: &[u8], it: Item, bytes: &mut [u8]) -> Line
+    requires { ⌜ Found (it .from) (it .to) (it .end) (it .stop) (length (now input)) × (k < 10) × (line .bytes ≤ length (now bytes)) × (line .list ≤ line .words) ⌝ }
+    ensures { λ r. ⌜ Filled (r .at) (r .end) (r .bytes) (r .list) (r .words) (length (now (input .entry))) (length (now (bytes .entry))) (line .words) ⌝ }
+{
+    let from = it.from;
+    let to = it.to;
+    let last = from + input::counted(&input[from..to], it.stop);
+    let unended = fields::unended(kind, it.stop);
+    store(
+        line,
+        kind,
+        k,
+        &input[from..last],
+        unended,
+        to,
+        it.end,
+        bytes,
+    )
+}
+
+// Behind what the buffer holds of an item; where that is wrong, the rest is left.
+fn pass_rest(line: Line, input: &mut [u8]) -> Line
+    requires { ⌜ Unread (line .at) (line .end) (length (now input)) ⌝ }
+    ensures { λ r. ⌜ Unread (r .at) (r .end) (length (now (input .entry))) × (r .bytes ≡ line .bytes) × (r .list ≡ line .list) × (r .words ≡ line .words) ⌝ }
+{
+    if line.what != 0 {
+        return line;
+    }
+    let over = input::pass_over(input, line.at, line.end, input::ITEM);
+    let what = fields::unended(calls::NONE, over.byte);
+    line.met(over.at, over.end, line.stop, what == 0, what)
+}
+
 // Field k of a call, of one item.
 fn one_field(
     line: Line,
@@ -185,10 +212,11 @@ fn one_field(
     ensures { λ r. ⌜ Filled (r .at) (r .end) (r .bytes) (r .list) (r .words) (length (now (input .entry))) (length (now (bytes .entry))) (line .words) ⌝ }
 {
     let it = input::next_item(&mut input[..], at, upto);
-    let from = it.from;
-    let to = it.to;
-    let unended = fields::unended(it.stop);
-    store(line, kind, k, &input[from..to], unended, to, it.end, bytes)
+    let stored = item_field(line, kind, k, &input[..], it, bytes);
+    if it.stop != input::TOO_LONG {
+        return stored;
+    }
+    pass_rest(stored, input)
 }
 
 // Field k of a call, a list that goes behind those before it.
@@ -243,7 +271,7 @@ fn met(line: Line, call: usize, k: usize, at: usize, end: usize, stop: usize) ->
     requires { ⌜ (call < callCount) × (k < 10) ⌝ }
     ensures { λ r. ⌜ Reads (r .at) (r .end) (r .bytes) (r .list) (r .words) at end (line .bytes) (line .list) (line .words) ⌝ }
 {
-    if ends(stop) {
+    if input::ends(stop) {
         return line.met(at, end, stop, false, cut(call, k, stop));
     }
     if calls::kind(call, k) == calls::NONE {
@@ -327,11 +355,12 @@ pub fn read_line(
     let from = name.from;
     let to = name.to;
     let end = name.end;
-    let unended = fields::unended(name.stop);
+    let unended = fields::unended(calls::NONE, name.stop);
     if unended != 0 {
         return Line::new(0, to, end, unended);
     }
-    let call = calls::call_of(&input[from..to]);
+    let last = from + input::counted(&input[from..to], name.stop);
+    let call = calls::call_of(&input[from..last]);
     if call == 0 {
         return Line::new(0, to, end, fields::UNKNOWN_CALL);
     }

@@ -7,6 +7,9 @@ use native.Mathlib.Nat.{eq-or-lt-of-le}
 use native.Mathlib.Omega.{arith}
 use lib.ListN.{length, getD}
 use lib.Seq.{paste}
+use Rattle.files.specs.declared.Loaded.{Loaded}
+use Rattle.files.specs.declared.Loaded.the-variants.{Words}
+use Rattle.files.specs.Answers.{countOf}
 use Rattle.mirror.specs.Site.{NextNonzero}
 
 -- every word from `from` to i is 0
@@ -36,3 +39,7 @@ module _ (l : List ℕ) (from i : ℕ) where
 pub copied :
     (old new words : List ℕ) (i : ℕ) → length words ≤ i → i ≤ length words → new ≡ paste old 0 words i → new ≡ paste old 0 words (length words)
 copied old new words i low high e = let q : i ≡ length words = omega arith in rw q at e
+
+-- the words of a file that was loaded fit their room
+pub loaded-fits : (r : Loaded) (n room : ℕ) → r ≡ Words n → countOf r ≤ room → n ≤ room
+loaded-fits r n room e h = rw e at h

@@ -9,6 +9,7 @@ use crate::pool_calls::state_call;
 use crate::site::Done;
 use crate::site::Site;
 use crate::site::failed;
+use crate::site::run_call;
 use crate::site::site_call;
 use journal::calls;
 use journal::fields;
@@ -23,12 +24,20 @@ fn on_image(call: usize) -> bool {
     call <= calls::NONZERO
 }
 
+// Whether a call is on a file.
+fn is_file(call: usize) -> bool {
+    if call == calls::LOAD {
+        return true;
+    }
+    call == calls::SAVE
+}
+
 // One call, its fields read.
 pub fn act(
     line: Line,
     site: Site,
     bytes: &[u8],
-    words: &[u64],
+    words: &mut [u64],
     pool: &mut [u64],
     out: &mut [u8],
     pen: Pen,
@@ -44,25 +53,29 @@ pub fn act(
     let args = line.args;
     let n = line.bytes;
     let field = &bytes[..n];
+    if is_file(call) {
+        return file_call(call, site, field, words, pool, out, pen);
+    }
     let from = line.list;
     let to = line.words;
     // A line has at most two lists: the first ends where the last begins.
-    let first = &words[..from];
-    let list = &words[from..to];
+    let lists = &words[..];
+    let first = &lists[..from];
+    let list = &lists[from..to];
     if call <= calls::SETTINGS {
         return site_call(call, site, args, pool, out, pen);
     }
     if on_image(call) {
         return image_call(call, site, line.count == 1, list, pool, out, pen);
     }
-    if call <= calls::SAVE {
-        return file_call(call, site, field, pool, out, pen);
-    }
     if call <= calls::PAYMENT {
         return pool_call(call, site, args, field, list, pool, out, pen);
     }
     if call == calls::POSITION_STATE {
         return state_call(site, args, list, out, pen);
+    }
+    if calls::HELP <= call {
+        return run_call(call, site, args, out, pen);
     }
     change_call(call, site, args, first, list, pool, out, pen)
 }

@@ -10,8 +10,11 @@ use crate::site::Site;
 use crate::site::failed;
 use crate::site::finished;
 use crate::site::tell_size;
+use files::Loaded;
+use files::Saved;
 use journal::answer;
 use journal::calls;
+use journal::fields;
 use journal::output;
 use journal::output::Pen;
 
@@ -69,30 +72,6 @@ fn tell_image(call: usize, site: Site, image: &[u64], out: &mut [u8], pen: Pen) 
     nonzero(image, out, pen)
 }
 
-// load PATH
-fn load(site: Site, path: &[u8], pool: &mut [u64], out: &mut [u8], pen: Pen) -> Done
-    requires { ⌜ Ready (site .size) (pen .at) (length (now pool)) (length (now out)) ⌝ }
-    ensures { λ r. ⌜ Kept (r .site .size) (r .pen .at) (length (now (pool .entry))) (length (now (out .entry))) ⌝ }
-{
-    let got = files::load(path, pool);
-    if got.what != 0 {
-        return failed(site, pen, 1, got.what);
-    }
-    tell_size(site.sized(got.count), out, pen)
-}
-
-// save PATH
-fn save(site: Site, path: &[u8], image: &[u64], out: &mut [u8], pen: Pen) -> Done
-    requires { ⌜ Writable (pen .at) (length (now out)) ⌝ }
-    ensures { λ r. ⌜ (r .site .size ≤ site .size) × (r .pen .at ≤ length (now (out .entry))) ⌝ }
-{
-    let what = files::save(path, image);
-    if what != 0 {
-        return failed(site, pen, 1, what);
-    }
-    tell_size(site, out, pen)
-}
-
 // Words become the start of the image's buffer.
 fn copy(words: &[u64], pool: &mut [u64])
     requires { ⌜ length (now words) ≤ length (now pool) ⌝ }
@@ -135,20 +114,65 @@ pub fn image_call(
     finished(site, told)
 }
 
+// Refusal 1, which a call would give the image or the file.
+fn refused(site: Site, out: &mut [u8], pen: Pen) -> Done
+    requires { ⌜ Writable (pen .at) (length (now out)) ⌝ }
+    ensures { λ r. ⌜ (r .site .size ≤ site .size) × (r .pen .at ≤ length (now (out .entry))) ⌝ }
+{
+    let told = answer::refused(out, pen, 1);
+    finished(site, told)
+}
+
+// load PATH. The words go to `room` first: where the file can't be read the image stays.
+fn load(
+    site: Site,
+    path: &[u8],
+    room: &mut [u64],
+    pool: &mut [u64],
+    out: &mut [u8],
+    pen: Pen,
+) -> Done
+    requires { ⌜ Ready (site .size) (pen .at) (length (now pool)) (length (now out)) × (length (now room) ≤ length (now pool)) ⌝ }
+    ensures { λ r. ⌜ Kept (r .site .size) (r .pen .at) (length (now (pool .entry))) (length (now (out .entry))) ⌝ }
+{
+    match files::load(path, &mut room[..]) {
+        Loaded::Words(n) => take_image(site, &room[..n], pool, out, pen),
+        Loaded::NotWhole => refused(site, out, pen),
+        Loaded::CannotRead => failed(site, pen, 1, fields::NO_FILE),
+    }
+}
+
+// save PATH
+fn save(site: Site, path: &[u8], image: &[u64], out: &mut [u8], pen: Pen) -> Done
+    requires { ⌜ Writable (pen .at) (length (now out)) ⌝ }
+    ensures { λ r. ⌜ (r .site .size ≤ site .size) × (r .pen .at ≤ length (now (out .entry))) ⌝ }
+{
+    let right = image::checked(image, site.p, site.e);
+    if !right {
+        return refused(site, out, pen);
+    }
+    match files::save(path, image) {
+        Saved::Done => tell_size(site, out, pen),
+        Saved::CannotWrite => failed(site, pen, 1, fields::CANNOT_WRITE),
+        Saved::FolderUnwritten => failed(site, pen, 1, fields::FOLDER_UNWRITTEN),
+    }
+}
+
 // Calls on files.
 pub fn file_call(
     call: usize,
     site: Site,
     path: &[u8],
+    room: &mut [u64],
     pool: &mut [u64],
     out: &mut [u8],
     pen: Pen,
 ) -> Done
-    requires { ⌜ Ready (site .size) (pen .at) (length (now pool)) (length (now out)) ⌝ }
+    requires { ⌜ Ready (site .size) (pen .at) (length (now pool)) (length (now out)) × (length (now room) ≤ length (now pool)) ⌝ }
     ensures { λ r. ⌜ Kept (r .site .size) (r .pen .at) (length (now (pool .entry))) (length (now (out .entry))) ⌝ }
 {
     if call == calls::LOAD {
-        return load(site, path, pool, out, pen);
+        return load(site, path, room, pool, out, pen);
     }
     let size = site.size;
     save(site, path, &pool[..size], out, pen)

@@ -12,6 +12,7 @@ ghost use lib.ListN.{length};
 ghost use Rattle.journal.specs.Held.{Unread};
 ghost use Rattle.mirror.specs.Site.{Ready, Kept, Held, Carried, Roomy};
 use journal::answer;
+use journal::calls::QUIT;
 use journal::fields;
 use journal::input;
 use journal::line;
@@ -59,12 +60,62 @@ fn settle(input: &[u8], from: usize, end: usize, out: &[u8], pen: Pen) -> Pen
     output::flush(out, pen)
 }
 
-// Whether a line was right and another one may follow.
-fn goes_on(what: u8, stop: usize) -> bool {
-    if what != 0 {
+// Whether another line may follow a call.
+fn goes_on(call: usize, stop: usize) -> bool {
+    if call == QUIT {
         return false;
     }
     stop == 10
+}
+
+// Whether a run goes on behind a wrong line: on a terminal, as long as that can be read.
+fn forgives(what: u8, terminal: bool) -> bool {
+    if what == fields::NO_INPUT {
+        return false;
+    }
+    terminal
+}
+
+// Where the input goes on behind a line, and whether it does.
+struct Rest {
+    at: usize,
+    end: usize,
+    going: bool,
+}
+
+// Behind a line that was read up to `at` and ended by `stop`. The rest of a wrong one is passed over where the run goes on.
+fn behind_line(
+    input: &mut [u8],
+    at: usize,
+    end: usize,
+    call: usize,
+    stop: usize,
+    what: u8,
+    terminal: bool,
+) -> Rest
+    requires { ⌜ Unread at end (length (now input)) ⌝ }
+    ensures { λ r. ⌜ Unread (r .at) (r .end) (length (now (input .entry))) ⌝ }
+{
+    if what == 0 {
+        return Rest {
+            at,
+            end,
+            going: goes_on(call, stop),
+        };
+    }
+    if !forgives(what, terminal) {
+        return Rest {
+            at,
+            end,
+            going: false,
+        };
+    }
+    let over = input::pass_over(input, at, end, input::LINE);
+    Rest {
+        at: over.at,
+        end: over.end,
+        going: over.byte == 10,
+    }
 }
 
 // Makes the call of a line, and answers; or says what is wrong with it.
@@ -73,7 +124,7 @@ fn finish(
     number: u64,
     site: Site,
     bytes: &[u8],
-    words: &[u64],
+    words: &mut [u64],
     pool: &mut [u64],
     out: &mut [u8],
     pen: Pen,
@@ -91,8 +142,19 @@ fn finish(
     site::failed(last, told, done.field, what)
 }
 
-// A line that is a call, its name at `from`.
-fn call_line(
+// A call that was read and answered: where its line goes on, by what it ended, and what was wrong with it, or 0.
+struct Answered {
+    at: usize,
+    end: usize,
+    call: usize,
+    stop: usize,
+    site: Site,
+    pen: Pen,
+    what: u8,
+}
+
+// Reads a line that is a call, its name at `from`, and answers it.
+fn answer_line(
     input: &mut [u8],
     from: usize,
     upto: usize,
@@ -101,7 +163,7 @@ fn call_line(
     pool: &mut [u64],
     out: &mut [u8],
     state: State,
-) -> State
+) -> Answered
     requires { ⌜ Roomy (length (now words)) (length (now pool)) (length (now out)) × Carried from upto (state .site .size) (state .pen .at) (length (now input)) (length (now pool)) (length (now out)) ⌝ }
     ensures { λ r. ⌜ Carried (r .at) (r .end) (r .site .size) (r .pen .at) (length (now (input .entry))) (length (now (pool .entry))) (length (now (out .entry))) ⌝ }
 {
@@ -112,13 +174,51 @@ fn call_line(
     let done = finish(read, number, site, bytes, words, pool, out, pen);
     let next = done.site;
     let told = done.pen;
-    State {
+    Answered {
         at: read.at,
         end: read.end,
-        line: number,
+        call: read.call,
+        stop: read.stop,
         site: next,
         pen: told,
-        going: goes_on(done.what, read.stop),
+        what: done.what,
+    }
+}
+
+// A line that is a call, its name at `from`.
+fn call_line(
+    input: &mut [u8],
+    from: usize,
+    upto: usize,
+    bytes: &mut [u8],
+    words: &mut [u64],
+    pool: &mut [u64],
+    out: &mut [u8],
+    state: State,
+    terminal: bool,
+) -> State
+    requires { ⌜ Roomy (length (now words)) (length (now pool)) (length (now out)) × Carried from upto (state .site .size) (state .pen .at) (length (now input)) (length (now pool)) (length (now out)) ⌝ }
+    ensures { λ r. ⌜ Carried (r .at) (r .end) (r .site .size) (r .pen .at) (length (now (input .entry))) (length (now (pool .entry))) (length (now (out .entry))) ⌝ }
+{
+    let line = answer_line(&mut input[..], from, upto, bytes, words, pool, out, state);
+    let site = line.site;
+    let pen = line.pen;
+    let rest = behind_line(
+        input,
+        line.at,
+        line.end,
+        line.call,
+        line.stop,
+        line.what,
+        terminal,
+    );
+    State {
+        at: rest.at,
+        end: rest.end,
+        line: state.line,
+        site,
+        pen,
+        going: rest.going,
     }
 }
 
@@ -177,7 +277,7 @@ fn comment(input: &mut [u8], at: usize, end: usize, state: State) -> State
 {
     let site = state.site;
     let pen = state.pen;
-    let over = input::line_end(input, at, end);
+    let over = input::pass_over(input, at, end, input::LINE);
     State {
         at: over.at,
         end: over.end,
@@ -196,6 +296,7 @@ fn step(
     pool: &mut [u64],
     out: &mut [u8],
     state: State,
+    terminal: bool,
 ) -> State
     requires { ⌜ Roomy (length (now words)) (length (now pool)) (length (now out)) × Carried (state .at) (state .end) (state .site .size) (state .pen .at) (length (now input)) (length (now pool)) (length (now out)) ⌝ }
     ensures { λ r. ⌜ Carried (r .at) (r .end) (r .site .size) (r .pen .at) (length (now (input .entry))) (length (now (pool .entry))) (length (now (out .entry))) ⌝ }
@@ -213,16 +314,17 @@ fn step(
     if byte == 35 {
         return comment(input, at, end, state);
     }
-    call_line(input, at, end, bytes, words, pool, out, state)
+    call_line(input, at, end, bytes, words, pool, out, state, terminal)
 }
 
-// Answers line after line until the input ends, a line is wrong, or the answers can't be written.
+// Answers line after line until the input ends, `quit` or a wrong line ends it, or the answers can't be written.
 fn run(
     input: &mut [u8],
     bytes: &mut [u8],
     words: &mut [u64],
     pool: &mut [u64],
     out: &mut [u8],
+    terminal: bool,
 ) -> Pen
     requires { ⌜ Roomy (length (now words)) (length (now pool)) (length (now out)) ⌝ }
     ensures { λ r. ⌜ r .at ≤ length (now (out .entry)) ⌝ }
@@ -238,6 +340,7 @@ fn run(
             &mut pool[..],
             &mut out[..],
             state,
+            terminal,
         );
         if !state.going {
             return state.pen;
@@ -246,7 +349,7 @@ fn run(
     state.pen
 }
 
-// The longest item is a message of twice 40,972 digits.
+// More than the digits of a message that is kept.
 fn input_room() -> [u8; 131072]
     ensures { λ r. ⌜ 131072 ≡ length r ⌝ }
 {
@@ -261,17 +364,17 @@ fn message_room() -> [u8; 40972]
 }
 
 // The longest word list is an image's.
-fn list_room() -> [u64; 174551]
-    ensures { λ r. ⌜ 174551 ≡ length r ⌝ }
+fn list_room() -> [u64; 174552]
+    ensures { λ r. ⌜ 174552 ≡ length r ⌝ }
 {
-    [0; 174551]
+    [0; 174552]
 }
 
-// The largest image.
-fn image_room() -> [u64; 174551]
-    ensures { λ r. ⌜ 174551 ≡ length r ⌝ }
+// One word more than the largest image.
+fn image_room() -> [u64; 174552]
+    ensures { λ r. ⌜ 174552 ≡ length r ⌝ }
 {
-    [0; 174551]
+    [0; 174552]
 }
 
 fn main() {
@@ -280,7 +383,15 @@ fn main() {
     let mut words = list_room();
     let mut pool = image_room();
     let mut out = io::large_buffer();
-    let pen = run(&mut input, &mut bytes, &mut words, &mut pool, &mut out);
+    let terminal = libc::isatty(libc::STDIN_FILENO) == 1;
+    let pen = run(
+        &mut input,
+        &mut bytes,
+        &mut words,
+        &mut pool,
+        &mut out,
+        terminal,
+    );
     let last = output::flush(&out, pen);
     if !last.ok {
         io::write_all(

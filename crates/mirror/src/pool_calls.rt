@@ -109,17 +109,16 @@ fn payment(
         PaymentAnswer::Paid {
             delegator_reward,
             publisher_reward,
-            custody_fall: _,
+            custody_fall,
             delegation_record,
             reads,
         } => {
             let next = delegation_record.next_slash_event_index;
             let last = delegation_record.last_epoch.0;
-            answer::ok(
-                out,
-                pen,
-                &[delegator_reward.0, publisher_reward.0, last, next, reads],
-            )
+            let delegator = delegator_reward.0;
+            let publisher = publisher_reward.0;
+            let fall = custody_fall.0;
+            answer::ok(out, pen, &[delegator, publisher, last, next, reads, fall])
         }
         PaymentAnswer::Refused(n) => answer::refused(out, pen, n),
     }

@@ -133,6 +133,19 @@ fn settings(site: Site, args: [u64; 50], out: &mut [u8], pen: Pen) -> Done
     finished(next, told)
 }
 
+// help CALL, where `call` is its number, or 0 for all calls; quit, which ends the run when it is answered
+pub fn run_call(call: usize, site: Site, args: [u64; 50], out: &mut [u8], pen: Pen) -> Done
+    requires { ⌜ Writable (pen .at) (length (now out)) ⌝ }
+    ensures { λ r. ⌜ (r .site .size ≤ site .size) × (r .pen .at ≤ length (now (out .entry))) ⌝ }
+{
+    if call == calls::HELP {
+        let told = answer::help(out, pen, args[0] as usize);
+        return finished(site, told);
+    }
+    let told = answer::ok(out, pen, &[]);
+    finished(site, told)
+}
+
 // Calls that lay out a site.
 pub fn site_call(
     call: usize,

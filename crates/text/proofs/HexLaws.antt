@@ -1,16 +1,18 @@
 -- Laws of hexadecimal digits: one for each way out of a reader, and its bytes. Assumes nothing.
-use Prim.Native.Nat.{ℕ, zero, suc, _+_, _*_, _-_, _/_, _<_, _≤_}
+use Prim.Native.Nat.{ℕ, zero, suc, _+_, _*_, _-_, _/_, _<_, _≤_, min}
 use mathlib.Core.Path.{_≡_, refl}
+use mathlib.Core.Logic.{⊎-elim}
 use mathlib.Core.Bool.{Bool, true, false, cond}
 use mathlib.Core.List.{List, [], _∷_}
 use lib.Dec.{ltb, eqb}
-use lib.ListN.{length, drop, getD, set, drop-of-length-le}
-use lib.Seq.{drop-cons}
+use lib.ListN.{length, take, drop, getD, set, drop-of-length-le, length-take}
+use lib.Seq.{drop-cons, getD-take, take-all, length-take-le}
+use native.Mathlib.Nat.{eq-or-lt-of-le}
 use native.Mathlib.Numerals.{add-one}
 use native.Mathlib.Omega.{arith}
-use borrow.Author.Tests.{le-ltb, lt-ltb, eq-eqb, ne-eqb, ltb-true, ltb-false}
-use Rattle.text.specs.declared.BytesRead.the-variants.{Count, NotBytes, TooMany}
-use Rattle.text.specs.Hex.{nibbleOf, allHex, byteAt, bytesOf, stored, spelled}
+use borrow.Author.Tests.{le-ltb, lt-ltb, eq-eqb, ne-eqb, ltb-true}
+use Rattle.text.specs.declared.BytesRead.the-variants.{Count, NotBytes}
+use Rattle.text.specs.Hex.{nibbleOf, allHex, byteAt, evenOf, bytesOf, stored, spelled}
 
 module _ (b x : ℕ) (same : x ≡ b) where
   pub none-1 : x < 48 → 16 ≡ nibbleOf b
@@ -77,53 +79,64 @@ hex-at [] i h l = absurd (omega arith)
 hex-at (b ∷ s) zero h l = ltb-true _ _ (both _ _ h .0)
 hex-at (b ∷ s) (suc i) h l = hex-at s i (both (ltb (nibbleOf b) 16) _ h .1) (omega arith)
 
-module _ (s : List ℕ) (room : ℕ) where
-  pub bytes-odd : (length s / 2 * 2 ≡ length s → ⊥) → NotBytes ≡ bytesOf s room
-  unfolding bytesOf
-  bytes-odd h = rw (ne-eqb _ _ h)
+-- and so is every digit of a part
+hex-in : (s : List ℕ) (n i : ℕ) → allHex (take n s) ≡ true → i < n → n ≤ length s → nibbleOf (getD s i 0) < 16
+hex-in s n i h k l = rw (getD-take n s i 0 k) at (hex-at (take n s) i h (rw (length-take-le n s l) k))
 
-  pub bytes-digits : length s / 2 * 2 ≡ length s → false ≡ allHex s → NotBytes ≡ bytesOf s room
-  unfolding bytesOf
-  bytes-digits h e = rw (eq-eqb _ _ h, ← e)
+-- a byte for each two digits, and no more bytes than there is room for
+even-count : (s : List ℕ) (n : ℕ) → evenOf s ≡ Count n → length s / 2 ≡ n
+unfolding evenOf
+even-count s n e = go (eqb (length s / 2 * 2) (length s)) (allHex s) (length s / 2) e
+  where
+    go : (a b : Bool) (m : ℕ) → cond a (cond b (Count m) NotBytes) NotBytes ≡ Count n → m ≡ n
+    go true true m q = cc
+    go true false m q = let z : _≡_ {A = ℕ} 0 1 = cc in absurd (omega arith)
+    go false b m q = let z : _≡_ {A = ℕ} 0 1 = cc in absurd (omega arith)
 
-  pub bytes-room : length s / 2 * 2 ≡ length s → true ≡ allHex s → room < length s / 2 → TooMany ≡ bytesOf s room
-  unfolding bytesOf
-  bytes-room h e l = rw (eq-eqb _ _ h, ← e, lt-ltb _ _ l)
+pub bytes-count : (s : List ℕ) (room n : ℕ) → bytesOf s room ≡ Count n → n ≤ room
+unfolding bytesOf
+bytes-count s room n e = let q = even-count (take (room * 2) s) n e in let l = length-take (room * 2) s in omega arith
 
-  -- no more bytes than there is room for
-  pub bytes-count : (n : ℕ) → bytesOf s room ≡ Count n → n ≤ room
-  unfolding bytesOf
-  bytes-count n e = go (eqb (length s / 2 * 2) (length s)) (allHex s) (ltb room (length s / 2)) (length s / 2) refl e
-    where
-      go : (a b t : Bool) (m : ℕ) → ltb room m ≡ t → cond a (cond b (cond t TooMany (Count m)) NotBytes) NotBytes ≡ Count n → n ≤ room
-      go true true true m w q = let z : _≡_ {A = ℕ} 0 1 = cc in absurd (omega arith)
-      go true true false m w q = let l : m ≡ n = cc in omega (arith, ltb-false room m w)
-      go true false t m w q = let z : _≡_ {A = ℕ} 0 1 = cc in absurd (omega arith)
-      go false b t m w q = let z : _≡_ {A = ℕ} 0 1 = cc in absurd (omega arith)
+-- n digits are looked at
+module _ (s : List ℕ) (room n : ℕ) (is : n ≡ min (room * 2) (length s)) where
+  looked-at : take (room * 2) s ≡ take n s
+  looked-at =
+      ⊎-elim
+      (λ h. rw h)
+      (λ h. rw (take-all (room * 2) s (omega arith), take-all n s (omega arith)))
+      (eq-or-lt-of-le {n = n} {m = room * 2} (omega arith))
 
-  pub bytes-all : length s / 2 * 2 ≡ length s → true ≡ allHex s → length s / 2 ≤ room → Count (length s / 2) ≡ bytesOf s room
-  unfolding bytesOf
-  bytes-all h e l = rw (eq-eqb _ _ h, ← e, le-ltb _ _ l)
+  pub bytes-odd : (n / 2 * 2 ≡ n → ⊥) → NotBytes ≡ bytesOf s room
+  unfolding bytesOf evenOf
+  bytes-odd h = rw (length-take (room * 2) s, ← is, ne-eqb _ _ h)
+
+  pub bytes-digits : n / 2 * 2 ≡ n → false ≡ allHex (take n s) → NotBytes ≡ bytesOf s room
+  unfolding bytesOf evenOf
+  bytes-digits h e = rw (length-take (room * 2) s, ← is, eq-eqb _ _ h, looked-at, ← e)
+
+  pub bytes-all : n / 2 * 2 ≡ n → true ≡ allHex (take n s) → Count (n / 2) ≡ bytesOf s room
+  unfolding bytesOf evenOf
+  bytes-all h e = rw (length-take (room * 2) s, ← is, eq-eqb _ _ h, looked-at, ← e)
 
 module _ (s : List ℕ) where
   pub spelled-not : (out : List ℕ) → out ≡ spelled NotBytes s out
   unfolding spelled
   spelled-not out = refl
 
-  pub spelled-many : (out : List ℕ) → out ≡ spelled TooMany s out
-  unfolding spelled
-  spelled-many out = refl
-
   pub spelled-count : (n : ℕ) (out : List ℕ) → stored s n out ≡ spelled (Count n) s out
   unfolding spelled
   spelled-count n out = refl
 
-  pub stored-turn : (n : ℕ) (l out : List ℕ) (b : ℕ) → l ≡ stored s n out → b ≡ nibbleOf (getD s (n * 2) 0) * 16 + nibbleOf (getD s (n * 2 + 1) 0) → set l n b ≡ stored s (n + 1) out
+  pub stored-turn :
+      (n : ℕ) (l out : List ℕ) (b : ℕ) → l ≡ stored s n out → b ≡ nibbleOf (getD s (n * 2) 0) * 16 + nibbleOf (getD s (n * 2 + 1) 0) →
+      set l n b ≡ stored s (n + 1) out
   unfolding stored byteAt
   stored-turn n l out b h e = rw (add-one, h, e)
 
-  pub stored-byte : (n b : ℕ) → allHex s ≡ true → n * 2 + 1 < length s → b ≡ nibbleOf (getD s (n * 2) 0) * 16 + nibbleOf (getD s (n * 2 + 1) 0) → b < 256
-  stored-byte n b h l e = omega (arith, hex-at s (n * 2) h (omega arith), hex-at s (n * 2 + 1) h l)
+  pub stored-byte :
+      (n b i : ℕ) → n ≤ length s → allHex (take n s) ≡ true → i * 2 + 1 < n →
+      b ≡ nibbleOf (getD s (i * 2) 0) * 16 + nibbleOf (getD s (i * 2 + 1) 0) → b < 256
+  stored-byte n b i l h k e = omega (arith, hex-in s n (i * 2) h (omega arith) l, hex-in s n (i * 2 + 1) h k l)
 
   pub stored-start : (out : List ℕ) → out ≡ stored s 0 out
   unfolding stored

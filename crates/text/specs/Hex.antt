@@ -3,9 +3,9 @@ use Prim.Native.Nat.{ℕ, zero, suc, _+_, _*_, _-_, _/_}
 use mathlib.Core.Bool.{Bool, true, false, cond}
 use mathlib.Core.List.{List, [], _∷_}
 use lib.Dec.{ltb, eqb}
-use lib.ListN.{length, getD, set}
+use lib.ListN.{length, take, getD, set}
 use Rattle.text.specs.declared.BytesRead.{BytesRead}
-use Rattle.text.specs.declared.BytesRead.the-variants.{Count, NotBytes, TooMany}
+use Rattle.text.specs.declared.BytesRead.the-variants.{Count, NotBytes}
 
 -- the value of a digit, 0 to 9, A to F or a to f; 16 for a byte that is none
 unfoldable pub nibbleOf : ℕ → ℕ
@@ -25,18 +25,20 @@ allHex (b ∷ s) = cond (ltb (nibbleOf b) 16) (allHex s) false
 unfoldable pub byteAt : List ℕ → ℕ → ℕ
 byteAt s i = nibbleOf (getD s i 0) * 16 + nibbleOf (getD s (i + 1) 0)
 
--- an even number of digits, as bytes that fit the room
+-- an even number of digits, as bytes
+unfoldable pub evenOf : List ℕ → BytesRead
+evenOf s = cond (eqb (length s / 2 * 2) (length s)) (cond (allHex s) (Count (length s / 2)) NotBytes) NotBytes
+
+-- the digits that there is room for, two to a byte, as bytes; what is beyond the room is passed over
 unfoldable pub bytesOf : List ℕ → (room : ℕ) → BytesRead
-bytesOf s room =
-    cond (eqb (length s / 2 * 2) (length s)) (cond (allHex s) (cond (ltb room (length s / 2)) TooMany (Count (length s / 2))) NotBytes) NotBytes
+bytesOf s room = evenOf (take (room * 2) s)
 
 -- the first n bytes that s spells, at the start of out
 unfoldable pub stored : List ℕ → (n : ℕ) → List ℕ → List ℕ
 stored s zero out = out
 stored s (suc n) out = set (stored s n out) n (byteAt s (n * 2))
 
--- out as the reader leaves it: untouched where the digits are no bytes for it
+-- out as the reader leaves it: untouched where the digits are no bytes
 unfoldable pub spelled : BytesRead → List ℕ → List ℕ → List ℕ
 spelled (Count n) s out = stored s n out
 spelled NotBytes s out = out
-spelled TooMany s out = out

@@ -1,7 +1,7 @@
 // Fields of a journal, read from their bytes.
 ghost use mathlib.Core.Path.{_≡_};
 ghost use mathlib.Core.Bool.{true};
-ghost use Prim.Native.Nat.{_+_, _*_, _≤_, _<_};
+ghost use Prim.Native.Nat.{_+_, _*_, _≤_, _<_, min};
 ghost use lib.ListN.{length};
 ghost use Rattle.text.specs.Decimal.{numberOf};
 ghost use Rattle.text.specs.Hex.{nibbleOf, allHex, bytesOf, spelled};
@@ -143,21 +143,28 @@ pub fn key(s: &[u8]) -> KeyRead
 pub enum BytesRead {
     Count(usize),
     NotBytes,
-    TooMany,
 }
 
-// Hexadecimal digits as bytes, put at the start of `out`.
+// How many of n digits there is room for, two to a byte.
+fn fitting(n: usize, room: usize) -> usize
+    ensures { λ r. ⌜ r ≡ min (room * 2) n ⌝ }
+{
+    if n / 2 < room {
+        return n;
+    }
+    room * 2
+}
+
+// Hexadecimal digits as bytes, put at the start of `out`; what is beyond the room is passed over.
 pub fn bytes(s: &[u8], out: &mut [u8]) -> BytesRead
     ensures { λ r. ⌜ (r ≡ bytesOf (now (s .entry)) (length (now (out .entry)))) × (now (out .exit) ≡ spelled r (now (s .entry)) (now (out .entry))) ⌝ }
 {
-    let n = s.len() / 2;
-    if n * 2 != s.len() {
+    let digits = fitting(s.len(), out.len());
+    let n = digits / 2;
+    if n * 2 != digits {
         return BytesRead::NotBytes;
     }
-    if all_hex(s) {
-        if out.len() < n {
-            return BytesRead::TooMany;
-        }
+    if all_hex(&s[..digits]) {
         let mut i = 0;
         while i < n {
             let j = i * 2;

@@ -7,13 +7,13 @@ use Rattle.mirror.proofs.run.Statement.{statement}
 use Rattle.mirror.proofs.run.Tie as tie
 
 abbrev Inv-loop : tie.InvT-loop
-Inv-loop input₀ bytes₀ words₀ pool₀ out₀ state₀ turns₀ input bytes words pool out state turns =
+Inv-loop input₀ bytes₀ words₀ pool₀ out₀ terminal state₀ turns₀ input bytes words pool out state turns =
     (length input ≡ length input₀) × (length bytes ≡ length bytes₀) × (length words ≡ length words₀) × (length pool ≡ length pool₀)
     × (length out ≡ length out₀)
     × Carried (state .at) (state .end) (state .site .size) (state .pen .at) (length input₀) (length pool₀) (length out₀)
 
 abbrev μ-loop : tie.MeasureT-loop
-μ-loop input₀ bytes₀ words₀ pool₀ out₀ state₀ turns₀ input bytes words pool out state turns = turns
+μ-loop input₀ bytes₀ words₀ pool₀ out₀ terminal state₀ turns₀ input bytes words pool out state turns = turns
 
 first-requires : tie.Need-first-requires Inv-loop μ-loop
 first-requires c κs = search needs

@@ -266,12 +266,18 @@ impl Clock {
     }
 }
 
-/// What document 01 makes inputs: the epoch and the slashed amounts.
+/// What document 01 makes inputs: the epoch and the slashed amounts. And what it makes an answer: by
+/// how much custody has fallen since the driver set that to 0.
 pub mod given {
-    use std::cell::Cell;
+    use {super::Pubkey, std::cell::Cell};
+
+    /// The key of the account that rewards are paid from; no other account of tokens has it.
+    pub static CUSTODY: Pubkey = Pubkey([0xcc; 32]);
+
     thread_local! {
         pub static EPOCH: Cell<u64> = const { Cell::new(0) };
         pub static SLASHED: Cell<(u64, u64)> = const { Cell::new((0, 0)) };
+        pub static FALLEN: Cell<u64> = const { Cell::new(0) };
     }
 }
 

@@ -1,6 +1,6 @@
-//! Token transfers are left out: a transfer is always made and moves nothing.
+//! Token transfers: a transfer is always made, and of its amount is only noted what leaves custody.
 pub mod token {
-    use anchor_lang::prelude::*;
+    use anchor_lang::{given, prelude::*};
 
     #[derive(Clone)]
     pub struct Token;
@@ -17,9 +17,12 @@ pub mod token {
     }
 
     pub fn transfer<'info>(
-        _ctx: CpiContext<'_, '_, '_, 'info, Transfer<'info>>,
-        _amount: u64,
+        ctx: CpiContext<'_, '_, '_, 'info, Transfer<'info>>,
+        amount: u64,
     ) -> Result<()> {
+        if *ctx.accounts.from.key == given::CUSTODY {
+            given::FALLEN.with(|f| f.set(f.get().wrapping_add(amount)));
+        }
         Ok(())
     }
 }

@@ -49,7 +49,9 @@ loop-less : tie.Need-loop-less Inv-loop μ-loop
 loop-less c = search needs
 
 loop-again : tie.Need-loop-again Inv-loop μ-loop
-loop-again c = (search needs, omega arith, bytes-more _ _ _ _ (c .before .before .before .before .before .before .loop .i) (c .before .before .before .before .before .before .loop .inv .2) (c .before .before .put-word .ensures))
+loop-again c =
+    let at = c .before .before .before .before .before .before .loop in
+    (search needs, omega arith, bytes-more _ _ _ _ (at .i) (at .inv .2) (c .before .before .put-word .ensures))
 
 same-length : tie.Need-same-length Inv-loop μ-loop
 same-length c = search needs

@@ -37,7 +37,9 @@ loop-less : tie.Need-loop-less Inv-loop μ-loop
 loop-less c = search needs
 
 loop-again : tie.Need-loop-again Inv-loop μ-loop
-loop-again c = (simp length-set (c .before .before .loop .inv .0), omega arith, words-more _ _ (c .before .before .loop .i) _ (omega arith) (c .before .before .loop .inv .2) (c .word-at .ensures))
+loop-again c =
+    let at = c .before .before .loop in
+    (simp length-set (at .inv .0), omega arith, words-more _ _ (at .i) _ (omega arith) (at .inv .2) (c .word-at .ensures))
 
 same-length : tie.Need-same-length Inv-loop μ-loop
 same-length c = search needs

@@ -1,5 +1,5 @@
 -- `journal::fields::message` meets its contract. Assumes nothing.
-use Rattle.journal.proofs.FieldsLaws.{message-dash, message-count, message-not, message-long}
+use Rattle.journal.proofs.FieldsLaws.{message-dash, message-count, message-not}
 use borrow.Author.Needs.{needs}
 use Rattle.journal.proofs.fields.message.Statement.{statement}
 use Rattle.journal.proofs.fields.message.Tie as tie
@@ -22,9 +22,6 @@ enum-known-n c = search needs
 enum-told : tie.Need-enum-told
 enum-told c = search needs
 
-enum-told-2 : tie.Need-enum-told-2
-enum-told-2 c = search needs
-
 same-length : tie.Need-same-length
 same-length c = search needs
 
@@ -37,12 +34,6 @@ same-length-2 c = search needs
 returns-3 : tie.Need-returns-3
 returns-3 c = message-not _ _ _ (c .before .before .before .before .before .before .before .same .ensures) (c .before .before .before .before .before .before .if1 .left) _ _ (c .before .before .before .before .bytes .ensures .0) (c .before .before .before .before .bytes .ensures .1) (c .enum-told .given .1)
 
-same-length-3 : tie.Need-same-length-3
-same-length-3 c = search needs
-
-returns-4 : tie.Need-returns-4
-returns-4 c = message-long _ _ _ (c .before .before .before .before .before .before .before .same .ensures) (c .before .before .before .before .before .before .if1 .left) _ _ (c .before .before .before .before .bytes .ensures .0) (c .before .before .before .before .bytes .ensures .1) (c .enum-told2 .given .1)
-
 pub message-spec : {M : Type 1} → statement M
 message-spec =
     tie.close
@@ -53,10 +44,7 @@ message-spec =
     bytes-requires
     enum-known-n
     enum-told
-    enum-told-2
     same-length
     returns-2
     same-length-2
-    returns-3
-    same-length-3
-    returns-4)
+    returns-3)

@@ -1,16 +1,15 @@
 -- `journal::fields::words` meets its contract. Assumes nothing.
-use borrow.Author.Tests.{not-false}
-use native.Mathlib.Omega.{arith}
 use Prim.Native.Nat.{_≤_, _-_}
 use mathlib.Core.Path.{_≡_}
 use lib.ListN.{length}
+use borrow.Author.Tests.{not-false}
 use borrow.Author.Needs.{needs}
+use native.Mathlib.Omega.{arith}
 use Rattle.journal.proofs.fields.words.Statement.{statement}
 use Rattle.journal.proofs.fields.words.Tie as tie
 
 abbrev Inv-loop : tie.InvT-loop
-Inv-loop input₀ start upto out₀ at₀ end₀ count₀ input out at end count =
-    (length input ≡ length input₀) × (length out ≡ length out₀) × (at ≤ end) × (end ≤ length input₀) × (count ≤ length out₀)
+Inv-loop input₀ start upto out₀ at₀ end₀ count₀ input out at end count = (length input ≡ length input₀) × (length out ≡ length out₀) × (at ≤ end) × (end ≤ length input₀) × (count ≤ length out₀)
 
 abbrev μ-loop : tie.MeasureT-loop
 μ-loop input₀ start upto out₀ at₀ end₀ count₀ input out at end count = length out₀ - count
@@ -51,6 +50,18 @@ loop-less c = let g = c .before .before .before .before .before .before .before 
 loop-again : tie.Need-loop-again Inv-loop μ-loop
 loop-again c = search needs
 
+pass-rest-requires : tie.Need-pass-rest-requires Inv-loop μ-loop
+pass-rest-requires c κs = search needs
+
+same-length-3 : tie.Need-same-length-3 Inv-loop μ-loop
+same-length-3 c = search needs
+
+same-length-4 : tie.Need-same-length-4 Inv-loop μ-loop
+same-length-4 c = search needs
+
+returns-2 : tie.Need-returns-2 Inv-loop μ-loop
+returns-2 c = search needs
+
 pub words-spec : {M : Type 1} → statement M
 words-spec =
     tie.close
@@ -68,4 +79,8 @@ words-spec =
     same-length-2
     returns
     loop-less
-    loop-again)
+    loop-again
+    pass-rest-requires
+    same-length-3
+    same-length-4
+    returns-2)

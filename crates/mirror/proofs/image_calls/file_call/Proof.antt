@@ -14,6 +14,9 @@ same-length c = search needs
 same-length-2 : tie.Need-same-length-2
 same-length-2 c = search needs
 
+same-length-3 : tie.Need-same-length-3
+same-length-3 c = search needs
+
 returns : tie.Need-returns
 returns c = search needs
 
@@ -26,11 +29,11 @@ slice-aggregate-save c = simp length-take (omega arith)
 save-requires : tie.Need-save-requires
 save-requires c κs = search needs
 
-same-length-3 : tie.Need-same-length-3
-same-length-3 c = search needs
-
 same-length-4 : tie.Need-same-length-4
 same-length-4 c = search needs
+
+same-length-5 : tie.Need-same-length-5
+same-length-5 c = search needs
 
 returns-2 : tie.Need-returns-2
 returns-2 c = search needs
@@ -42,10 +45,11 @@ file-call-spec =
     load-requires
     same-length
     same-length-2
+    same-length-3
     returns
     slice-reshare-prefix-save
     slice-aggregate-save
     save-requires
-    same-length-3
     same-length-4
+    same-length-5
     returns-2)
