@@ -163,9 +163,15 @@ def accounts(call, given):
             raise Wrong(f"{call} {name}: {ABSENT}")
 
 
+def without_return(line):
+    """A carriage return at the line's end is no part of the last field, but counts towards the bytes that this may have."""
+    last = len(line) - 1 - max(line.rfind(b" "), line.rfind(b","))
+    return line if last > ITEM else line.removesuffix(b"\r")
+
+
 def parsed(line):
     """A call and its fields; nothing for a line that is passed over. One carriage return at the line's end doesn't count."""
-    fields = [field for field in line.removesuffix(b"\r").split(b" ") if field]
+    fields = [field for field in without_return(line).split(b" ") if field]
     if not fields or fields[0].startswith(b"#"):
         return None
     call = fields.pop(0)
