@@ -2,14 +2,13 @@
 ghost use mathlib.Core.Path.{_≡_};
 ghost use Prim.Native.Nat.{_≤_, _<_};
 ghost use lib.ListN.{length};
-ghost use Rattle.journal.specs.Held.{Unread, Found, Filled, Reads, Stores};
+ghost use Rattle.journal.specs.Held.{Unread, Filled, Reads, Stores};
 ghost use Rattle.journal.specs.Calls.{callCount};
 ghost use Rattle.journal.specs.Fields.{cutOf};
 use crate::calls;
 use crate::fields;
 use crate::fields::Stored;
 use crate::input;
-use crate::input::Item;
 
 // A call and what is read of its line: how many fields, its numbers and keys, how many bytes its message or path has, where the last list
 // begins and ends among the words, where the line goes on, what byte ended it, whether more is to be read, and what was wrong, or 0.
@@ -164,27 +163,6 @@ fn store(
     line.field(next, line.bytes, line.list, line.words, at, end, got.what)
 }
 
-// The item of field k as it was found; a carriage return at the line's end is no part of it.
-fn item_field(line: Line, kind: u8, k: usize, input: &[u8], it: Item, bytes: &mut [u8]) -> Line
-    requires { ⌜ Found (it .from) (it .to) (it .end) (it .stop) (length (now input)) × (k < 10) × (line .bytes ≤ length (now bytes)) × (line .list ≤ line .words) ⌝ }
-    ensures { λ r. ⌜ Filled (r .at) (r .end) (r .bytes) (r .list) (r .words) (length (now (input .entry))) (length (now (bytes .entry))) (line .words) ⌝ }
-{
-    let from = it.from;
-    let to = it.to;
-    let last = from + input::counted(&input[from..to], it.stop);
-    let unended = fields::unended(kind, it.stop);
-    store(
-        line,
-        kind,
-        k,
-        &input[from..last],
-        unended,
-        to,
-        it.end,
-        bytes,
-    )
-}
-
 // Behind what the buffer holds of an item; where that is wrong, the rest is left.
 fn pass_rest(line: Line, input: &mut [u8]) -> Line
     requires { ⌜ Unread (line .at) (line .end) (length (now input)) ⌝ }
@@ -198,7 +176,26 @@ fn pass_rest(line: Line, input: &mut [u8]) -> Line
     line.met(over.at, over.end, line.stop, what == 0, what)
 }
 
-// Field k of a call, of one item.
+// Field k of a call, of an item that the buffer can't hold.
+fn long_field(
+    line: Line,
+    kind: u8,
+    k: usize,
+    input: &mut [u8],
+    from: usize,
+    to: usize,
+    end: usize,
+    bytes: &mut [u8],
+) -> Line
+    requires { ⌜ (from ≤ to) × Unread to end (length (now input)) × (k < 10) × (line .bytes ≤ length (now bytes)) × (line .list ≤ line .words) ⌝ }
+    ensures { λ r. ⌜ Filled (r .at) (r .end) (r .bytes) (r .list) (r .words) (length (now (input .entry))) (length (now (bytes .entry))) (line .words) ⌝ }
+{
+    let unended = fields::unended(kind, input::TOO_LONG);
+    let held = store(line, kind, k, &input[from..to], unended, to, end, bytes);
+    pass_rest(held, input)
+}
+
+// Field k of a call, of one item; a carriage return at the line's end is no part of it.
 fn one_field(
     line: Line,
     kind: u8,
@@ -212,11 +209,23 @@ fn one_field(
     ensures { λ r. ⌜ Filled (r .at) (r .end) (r .bytes) (r .list) (r .words) (length (now (input .entry))) (length (now (bytes .entry))) (line .words) ⌝ }
 {
     let it = input::next_item(&mut input[..], at, upto);
-    let stored = item_field(line, kind, k, &input[..], it, bytes);
-    if it.stop != input::TOO_LONG {
-        return stored;
+    let from = it.from;
+    let to = it.to;
+    if it.stop == input::TOO_LONG {
+        return long_field(line, kind, k, input, from, to, it.end, bytes);
     }
-    pass_rest(stored, input)
+    let last = from + input::counted(&input[from..to], it.stop);
+    let unended = fields::unended(kind, it.stop);
+    store(
+        line,
+        kind,
+        k,
+        &input[from..last],
+        unended,
+        to,
+        it.end,
+        bytes,
+    )
 }
 
 // Field k of a call, a list that goes behind those before it.
