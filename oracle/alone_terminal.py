@@ -12,7 +12,7 @@ from runs import Runs, image, told, type_in
 
 NOTE = "mirror: standard output can't be written\n"
 A_KEY = "01" + "0" * 62
-END = "\x04"        # of the input, as it is typed
+END = "\x04"        # of the input, as it is typed; within a line it hands over what was typed, and must be typed again
 POSITION = "2,1,5,1,8,0,0,0,0"
 # A line of each kind, and more, with what is told of it.
 WRONG = [
@@ -88,8 +88,8 @@ class Terminals(Runs):
             yield self.verdict(f"a terminal, {says}", self.typed(text), out)
         for says, text, out in (
                 ("lines that are typed", "new 1 1\rx\rnonzero\rquit\r", "ok 29\n" + told(CALL, 2) + "ok\nok\n"), ("the input's end", "new 1 1\n" + END, "ok 29\n"), ("nothing but the input's end", END, ""),
-                ("the input's end behind a wrong line", "new 1 1\nx\n" + END, "ok 29\n" + told(CALL, 2)), ("the input's end behind a line without its own", "new 1 1\nnonzero" + END + END, "ok 29\nok\n"),
-                ("the input's end within a wrong line", "new 1 1\nfresh" + END + END, "ok 29\n" + told(f"fresh EPOCH: {FEW}", 2))):
+                ("the input's end behind a wrong line", "new 1 1\nx\n" + END, "ok 29\n" + told(CALL, 2)), ("the input's end behind a line without its own", "new 1 1\nnonzero" + 9 * END, "ok 29\nok\n"),
+                ("the input's end within a wrong line", "new 1 1\nfresh" + 9 * END, "ok 29\n" + told(f"fresh EPOCH: {FEW}", 2))):
             yield self.verdict(f"a terminal, {says}", self.typed(text, cooked=True), out)
         yield self.verdict("a terminal that is closed behind some fields", self.hung_up(b"new 1 1\nadvance 10 "), "ok 29\n" + told(INPUT, 2))
         yield self.verdict("a terminal that is closed behind a wrong line", self.hung_up(b"new 1 1\nx\nnonzero\nadvance 10 "), "ok 29\n" + told(CALL, 2) + "ok\n" + told(INPUT, 4))

@@ -197,7 +197,7 @@ class Damage:
         more = self.r.choice([0, 1])
         return self.r.choice([
             *[lambda: self.r.choice([b"forecast 1 1 1 1 ", b"advance 10 10000 0 1 "]) + self.long_message() + self.r.choice([b"", b"", b"\r", b" \r", b" 0"])] * 3,
-            lambda: b" ".join([b"stake-account", *[self.digits(64)] * 3, *keys[:2], lists[0], keys[2], lists[1]]),
+            *[lambda: b" ".join([b"stake-account", *[self.digits(64)] * 3, *keys[:2], lists[0], keys[2], lists[1]])] * 3,
             lambda: b" ".join([b"stake-account", *[self.digits(64)] * 5, self.long_list(POSITIONS_ROOM), self.digits(64), self.long_list(POSITIONS_ROOM)]),
             lambda: b" ".join([b"payment 10", *[self.digits(64)] * 2, b"0 0 none 0", self.long_list(POSITIONS_ROOM)]),
             lambda: b"load " + self.r.choice([b"odd", b"long", b"short", b"link"]),
@@ -208,7 +208,8 @@ class Damage:
             lambda: b" ".join([b"state", self.number(), self.position()]),
             lambda: b"state 1 " + self.long_list(POSITIONS_ROOM),
             lambda: b"help " + self.field("CALL"),
-            lambda: self.r.choice([b"load ", b"fresh ", b"fee ", b"help ", b"remove 1 ", b"state "]) + self.long_field() + self.r.choice([b"", b"\r"]),
+            lambda: self.r.choice([b"load ", b"save ", b"fresh ", b"fee ", b"help ", b"remove 1 ", b"state ", b"remove 1 %s %s 1 " % (self.digits(64), self.digits(64))]) + self.long_field() +
+            self.r.choice([b"", b"\r"]),
             lambda: self.long_field() + self.r.choice([b"", b"\r"]),
         ])()
 

@@ -11,7 +11,7 @@ from image import IMAGE_ROOM, MESSAGE_ROOM, POSITIONS_ROOM
 JOURNAL = os.path.join(os.path.dirname(os.path.dirname(os.path.abspath(__file__))), "docs/JOURNAL.md")
 LARGEST = IMAGE_ROOM - 1    # words of the largest image
 PATH_ROOM = MESSAGE_ROOM    # the most bytes of a path
-ITEM = 131_071      # the most bytes of a field of one value or of a list's item: docs/DECISIONS.md, 'The program'
+ITEM = 131_071      # the most bytes of a field of one value or of a list's item, with a carriage return behind it: docs/DECISIONS.md, 'The program'
 NAME = 255          # the most bytes of a file's name, the system's
 FOLDER = None       # stands for a folder among files
 KEYS = "PUBLISHER ACCOUNT SIGNER AUTHORITY".split()
@@ -113,24 +113,24 @@ def call_name(field):
     return None if field.decode("latin-1") in CALLS else CALL, field
 
 
-def item(field):
+def item(field, returns):
     """One of a list: what is wrong or nothing, the item, and how many words it gives."""
-    if len(field) > ITEM:
+    if len(field) + returns > ITEM:
         return LONG, field, 0
     if field.startswith(b"0x"):
         return key(field[2:])[0], field.lower(), 4
     return wrong_number(field), plain(field), 1
 
 
-def words(field, room):
+def words(field, room, returns):
     """Item by item, as long as there is room."""
     if field == b"-" or (PLAIN.fullmatch(field) and field.count(b",") < room):
         return None, field
-    kept = []
-    for one in field.split(b",", room):
+    kept, items = [], field.split(b",", room)
+    for at, one in enumerate(items, 1):
         if room <= 0:
             break
-        what, value, count = item(one)
+        what, value, count = item(one, returns if at == len(items) else 0)
         if what:
             return what, field
         kept.append(value)
@@ -138,13 +138,13 @@ def words(field, room):
     return None, b",".join(kept)
 
 
-def read(name, field):
-    """A field by the name that the table gives it."""
+def read(name, field, returns):
+    """A field by the name that the table gives it, with how many carriage returns stand directly behind it at the line's end."""
     if name in POSITIONS or name == "WORDS":
-        return words(field, IMAGE_ROOM if name == "WORDS" else POSITIONS_ROOM)
+        return words(field, IMAGE_ROOM if name == "WORDS" else POSITIONS_ROOM, returns)
     if name == "CAPS":
         return message(field)
-    if len(field) > ITEM:
+    if len(field) + returns > ITEM:
         return LONG, field
     kinds = {"STATE": state, "PATH": path, "CALL": call_name, **dict.fromkeys(KEYS, key), **dict.fromkeys(KEYS_OR_NONE, key_or_none)}
     return kinds.get(name, number)(field)
@@ -163,26 +163,21 @@ def accounts(call, given):
             raise Wrong(f"{call} {name}: {ABSENT}")
 
 
-def without_return(line):
-    """A carriage return at the line's end is no part of the last field, but counts towards the bytes that this may have."""
-    last = len(line) - 1 - max(line.rfind(b" "), line.rfind(b","))
-    return line if last > ITEM else line.removesuffix(b"\r")
-
-
 def parsed(line):
-    """A call and its fields; nothing for a line that is passed over. One carriage return at the line's end doesn't count."""
-    fields = [field for field in without_return(line).split(b" ") if field]
+    """A call and its fields; nothing for a line that is passed over. One carriage return at the line's end doesn't count, but for a field's length."""
+    fields = [field for field in line.removesuffix(b"\r").split(b" ") if field]
     if not fields or fields[0].startswith(b"#"):
         return None
+    returns = [0] * (len(fields) - 1) + [int(line.endswith(fields[-1] + b"\r"))]
     call = fields.pop(0)
-    if len(call) > ITEM:
+    if len(call) + returns.pop(0) > ITEM:
         raise Wrong(LONG)
     call = call.decode("latin-1")
     if call not in CALLS:
         raise Wrong(CALL)
     given = []
-    for name, field in zip(CALLS[call], fields):
-        what, value = read(name, field)
+    for name, field, behind in zip(CALLS[call], fields, returns):
+        what, value = read(name, field, behind)
         if what:
             raise Wrong(f"{call} {name}: {what}")
         given.append(value)
