@@ -199,6 +199,21 @@ pub fn pass_over(input: &mut [u8], start: usize, upto: usize, over: u8) -> Peek
     Peek { at, end, byte: END }
 }
 
+// Passes over the rest of an item that was met up to `start`, where the buffer couldn't hold it.
+fn pass_item(input: &mut [u8], start: usize, upto: usize, stop: usize) -> Peek
+    requires { ⌜ Unread start upto (length (now input)) ⌝ }
+    ensures { λ r. ⌜ Unread (r .at) (r .end) (length (now (input .entry))) ⌝ }
+{
+    if stop == TOO_LONG {
+        return pass_over(input, start, upto, ITEM);
+    }
+    Peek {
+        at: start,
+        end: upto,
+        byte: stop,
+    }
+}
+
 // The byte behind a carriage return at `at`, which moves to the start where more must be read.
 fn behind(input: &mut [u8], at: usize, upto: usize) -> Peek
     requires { ⌜ (at < upto) × (upto ≤ length (now input)) ⌝ }
@@ -247,6 +262,15 @@ pub fn next_byte(input: &mut [u8], start: usize, upto: usize) -> Peek
         end: next.end,
         byte: 13,
     }
+}
+
+// The same behind an item that ended with `stop`.
+pub fn next_behind(input: &mut [u8], start: usize, upto: usize, stop: usize) -> Peek
+    requires { ⌜ Unread start upto (length (now input)) ⌝ }
+    ensures { λ r. ⌜ Found (r .at) (r .at) (r .end) (r .byte) (length (now (input .entry))) ⌝ }
+{
+    let rest = pass_item(&mut input[..], start, upto, stop);
+    next_byte(input, rest.at, rest.end)
 }
 
 // Whether a line ends at a byte, or the input does.

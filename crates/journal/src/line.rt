@@ -46,7 +46,7 @@ impl Line {
         }
     }
 
-    // One field more, read up to `at`.
+    // One field more, read up to `at`, where `stop` stands.
     fn field(
         self,
         args: [u64; 50],
@@ -55,6 +55,7 @@ impl Line {
         words: usize,
         at: usize,
         end: usize,
+        stop: usize,
         what: u8,
     ) -> Self
         ensures { λ r. ⌜ Reads (r .at) (r .end) (r .bytes) (r .list) (r .words) at end bytes list words ⌝ }
@@ -69,7 +70,7 @@ impl Line {
             words,
             at,
             end,
-            stop: self.stop,
+            stop,
             more: what == 0,
             what,
         }
@@ -136,7 +137,7 @@ fn as_bytes(kind: u8, s: &[u8], bytes: &mut [u8]) -> Stored
     fields::path(s, bytes)
 }
 
-// The item of field k, which the line goes on behind; `unended` where it didn't come whole.
+// The item of field k, which the line goes on behind, with `stop`; `unended` where it didn't come whole.
 fn store(
     line: Line,
     kind: u8,
@@ -145,6 +146,7 @@ fn store(
     unended: u8,
     at: usize,
     end: usize,
+    stop: usize,
     bytes: &mut [u8],
 ) -> Line
     requires { ⌜ (k < 10) × (line .bytes ≤ length (now bytes)) ⌝ }
@@ -152,47 +154,42 @@ fn store(
 {
     let args = line.args;
     if unended != 0 {
-        return line.field(args, line.bytes, line.list, line.words, at, end, unended);
+        return line.field(
+            args,
+            line.bytes,
+            line.list,
+            line.words,
+            at,
+            end,
+            stop,
+            unended,
+        );
     }
     if is_bytes(kind) {
         let got = as_bytes(kind, item, bytes);
-        return line.field(args, got.count, line.list, line.words, at, end, got.what);
+        return line.field(
+            args,
+            got.count,
+            line.list,
+            line.words,
+            at,
+            end,
+            stop,
+            got.what,
+        );
     }
     let got = fields::value(kind, item, args, k);
     let next = got.args;
-    line.field(next, line.bytes, line.list, line.words, at, end, got.what)
-}
-
-// Behind what the buffer holds of an item; where that is wrong, the rest is left.
-fn pass_rest(line: Line, input: &mut [u8]) -> Line
-    requires { ⌜ Unread (line .at) (line .end) (length (now input)) ⌝ }
-    ensures { λ r. ⌜ Unread (r .at) (r .end) (length (now (input .entry))) × (r .bytes ≡ line .bytes) × (r .list ≡ line .list) × (r .words ≡ line .words) ⌝ }
-{
-    if line.what != 0 {
-        return line;
-    }
-    let over = input::pass_over(input, line.at, line.end, input::ITEM);
-    let what = fields::unended(calls::NONE, over.byte);
-    line.met(over.at, over.end, line.stop, what == 0, what)
-}
-
-// Field k of a call, of an item that the buffer can't hold.
-fn long_field(
-    line: Line,
-    kind: u8,
-    k: usize,
-    input: &mut [u8],
-    from: usize,
-    to: usize,
-    end: usize,
-    bytes: &mut [u8],
-) -> Line
-    requires { ⌜ (from ≤ to) × Unread to end (length (now input)) × (k < 10) × (line .bytes ≤ length (now bytes)) × (line .list ≤ line .words) ⌝ }
-    ensures { λ r. ⌜ Filled (r .at) (r .end) (r .bytes) (r .list) (r .words) (length (now (input .entry))) (length (now (bytes .entry))) (line .words) ⌝ }
-{
-    let unended = fields::unended(kind, input::TOO_LONG);
-    let held = store(line, kind, k, &input[from..to], unended, to, end, bytes);
-    pass_rest(held, input)
+    line.field(
+        next,
+        line.bytes,
+        line.list,
+        line.words,
+        at,
+        end,
+        stop,
+        got.what,
+    )
 }
 
 // Field k of a call, of one item; a carriage return at the line's end is no part of it.
@@ -211,21 +208,10 @@ fn one_field(
     let it = input::next_item(&mut input[..], at, upto);
     let from = it.from;
     let to = it.to;
-    if it.stop == input::TOO_LONG {
-        return long_field(line, kind, k, input, from, to, it.end, bytes);
-    }
     let last = from + input::counted(&input[from..to], it.stop);
     let unended = fields::unended(kind, it.stop);
-    store(
-        line,
-        kind,
-        k,
-        &input[from..last],
-        unended,
-        to,
-        it.end,
-        bytes,
-    )
+    let item = &input[from..last];
+    store(line, kind, k, item, unended, to, it.end, it.stop, bytes)
 }
 
 // Field k of a call, a list that goes behind those before it.
@@ -251,6 +237,7 @@ fn list_field(
         from + list.count,
         list.at,
         list.end,
+        input::END,
         list.what,
     )
 }
@@ -301,7 +288,7 @@ fn next_field(
     requires { ⌜ Filled (line .at) (line .end) (line .bytes) (line .list) (line .words) (length (now input)) (length (now bytes)) (length (now words)) × (call < callCount) × (k < 10) ⌝ }
     ensures { λ r. ⌜ Filled (r .at) (r .end) (r .bytes) (r .list) (r .words) (length (now (input .entry))) (length (now (bytes .entry))) (length (now (words .entry))) ⌝ }
 {
-    let next = input::next_byte(&mut input[..], line.at, line.end);
+    let next = input::next_behind(&mut input[..], line.at, line.end, line.stop);
     let here = met(line, call, k, next.at, next.end, next.byte);
     if here.more {
         return field(
