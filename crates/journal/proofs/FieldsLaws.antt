@@ -255,7 +255,3 @@ module _ (what count : ℕ) where
     pub field-last : (what ≡ 2 → ⊥) → count ≡ wrongField what count
     unfolding wrongField
     field-last m = rw (ne-eqb _ _ n, ne-eqb _ _ m)
-
--- a path that has room is copied
-pub read-whole : (s old new : List ℕ) (count what : ℕ) → length s ≤ length old → PathRead s old new count what → new ≡ paste old 0 s (length s)
-read-whole s old new count what h r = rw (le-leb (length s) (length old) h) at (r .kept)
