@@ -1,11 +1,13 @@
 // What an advance or a forecast works out before anything is written.
+#![tactic(auto)]
+
 pub mod due;
 pub mod plan;
 pub mod rows;
 pub mod stake;
 
 // What either is given besides the pool and the caps message.
-#[derive(Drop)]
+#[derive(Clone, Copy)]
 pub struct Given {
     pub current_epoch: u64,
     pub y: u64,

@@ -20,14 +20,14 @@ use types::{Amount, Ratio};
 const HALF: u64 = 0x8000_0000_0000_0000;
 
 // y' and the amount set aside, or a refusal.
-#[derive(Drop)]
+#[derive(Clone, Copy)]
 pub enum Planned {
     Rewards { y: Ratio, set_aside: Amount },
     Refused(u64),
 }
 
 // The marks are those of the matched rows; they, the seats and the rows count where there is no refusal.
-#[derive(Drop)]
+#[derive(Clone, Copy)]
 pub struct AdvancePlan {
     pub planned: Planned,
     pub seats: usize,

@@ -16,7 +16,7 @@ pub struct EventHead {
 }
 
 // The epochs that an advance passes: `passed` of them from the pool's last one on, the first of which writes event `num_events`.
-#[derive(Drop)]
+#[derive(Clone, Copy)]
 pub struct PassedEpochs {
     pub num_events: u64,
     pub last_updated_epoch: Epoch,

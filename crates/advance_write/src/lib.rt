@@ -1,4 +1,6 @@
 // All that an accepted advance writes, once it has been worked out.
+#![tactic(auto)]
+
 ghost use Rattle.std.specs.Prelude.{◌≡◌};
 ghost use Rattle.image.specs.Layout.{read, image};
 ghost use Rattle.advance_plan.specs.Advance.{advanced_words};

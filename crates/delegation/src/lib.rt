@@ -1,4 +1,6 @@
 // One side of a publisher's stake: its total, and the change that takes effect with the next epoch.
+#![tactic(auto)]
+
 ghost use Rattle.std.specs.Prelude.{◌≡◌};
 ghost use Rattle.delegation.specs.Side.{raised_of, lowered_of, delta_is, roll_of, add_of, remove_in, remove_of, slash_of, changed_is, removed_is};
 ghost use Rattle.positions.specs.declared.position.PositionState.TheVariants.{LOCKED};
@@ -7,7 +9,7 @@ use positions::position::PositionState;
 use std::num::wrapping_add_u64;
 use types::Amount;
 
-#[derive(Drop)]
+#[derive(Clone, Copy)]
 pub struct DelegationState {
     pub total_delegation: Amount,
     // A signed word: from 2^63 on it stands for itself less 2^64.

@@ -1,4 +1,6 @@
 // Item 8: the amounts of all positions with one publisher gather per ring slot.
+#![tactic(auto)]
+
 ghost use Rattle.std.specs.Prelude.{◌/◌, ◌≤◌, length};
 ghost use Rattle.image.specs.Layout.{read};
 ghost use Rattle.image.specs.Seats.{Sized};

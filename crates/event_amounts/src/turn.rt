@@ -10,7 +10,7 @@ use positions::list::position_at;
 
 // What the walk of a position draws, and the next position with the publisher. `walks` is 1, and 0 where there is no walk: behind the last
 // position, and where the position's state does not fit.
-#[derive(Drop)]
+#[derive(Clone, Copy)]
 pub struct Turn {
     pub fits: bool,
     pub walks: usize,

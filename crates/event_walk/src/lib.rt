@@ -1,4 +1,6 @@
 // Item 8: the walk of one position over the newest events.
+#![tactic(auto)]
+
 ghost use Rattle.std.specs.Prelude.{◌≡◌, true, ℕ, ◌+◌, ◌≤◌, ◌<◌, get_or};
 ghost use Rattle.types.specs.Base.{word};
 ghost use Rattle.event_walk.specs.Span.{units_in};
@@ -9,7 +11,7 @@ pub mod span;
 
 // The Rust's event_amounts, one for each ring slot in the order in which walks come to them, and how many events have been read. Where
 // something did not fit, the numbers say nothing.
-#[derive(Drop)]
+#[derive(Clone, Copy)]
 pub struct EventAmounts {
     pub fits: bool,
     pub amounts: [u64; 52],

@@ -6,7 +6,7 @@ ghost use Rattle.event_walk.specs.Walk.{walk_length};
 ghost use Rattle.event_walk.specs.Walked.{slot_before, NewestOf};
 
 // The epochs of the newest events that are not older than the record's, newest first; how many they are; and how many events each walk reads.
-#[derive(Drop)]
+#[derive(Clone, Copy)]
 pub struct Newest {
     pub epochs: [u64; 52],
     pub meets: usize,

@@ -1,6 +1,8 @@
 // Runs document 01's examples that are not marked P, and every row of its table 'Turned back', through the public calls at P 2 and E 4, payments
 // and slashes in their lent forms too; then such payments over further lists. A line holds what a call answered and wrote; the file stdout holds
 // what the document says.
+#![tactic(auto)]
+
 mod calls;
 mod forms;
 mod given;

@@ -1,4 +1,6 @@
 // What stands at a path, as lstat tells it.
+#![tactic(auto)]
+
 ghost use Rattle.std.specs.Prelude.{◌≡◌, false, ◌<◌, length};
 ghost use Rattle.libc.specs.Io.{Ended};
 ghost use Rattle.file_type.specs.Path.{is_path, zeros, ended_path};

@@ -1,4 +1,6 @@
 // An image as a file of little-endian words.
+#![tactic(auto)]
+
 mod name;
 mod read;
 mod second;

@@ -1,4 +1,6 @@
 // The pool image: the words of the Rust's PoolData, where they stand, and refusal 1.
+#![tactic(auto)]
+
 ghost use Rattle.std.specs.Prelude.{◌≡◌, ◌≤◌};
 ghost use Rattle.image.specs.Layout.{event_at, num_events_at};
 ghost use Rattle.image.specs.Seats.{size_of, sized_image, checked_image, Cleared};

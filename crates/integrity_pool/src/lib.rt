@@ -1,5 +1,7 @@
 // The public calls. Nothing is required of the caller: what does not hold is refused, with document 01's number, and a refused call changes
 // no word.
+#![tactic(auto)]
+
 ghost use Rattle.std.specs.Prelude.{◌≡◌};
 ghost use Rattle.pool.specs.Answers.{advance_is, forecast_is};
 ghost use Rattle.integrity_pool.specs.Calls.{fresh_is, fresh_call, fresh_image, checked_then, passed, checks_is, advance_call, advance_image, forecast_call};

@@ -19,7 +19,7 @@ use types::refusals::{
 use types::{Amount, Epoch};
 
 // A staker's record with one publisher.
-#[derive(Drop)]
+#[derive(Clone, Copy)]
 pub struct DelegationRecord {
     pub last_epoch: Epoch,
     pub next_slash_event_index: u64,
@@ -38,7 +38,7 @@ impl DelegationRecord {
 }
 
 // What a payment is given besides the pool and the positions; the accounts by the names of the Rust's AdvanceDelegationRecord.
-#[derive(Drop)]
+#[derive(Clone, Copy)]
 pub struct Claim {
     pub delegation_record: DelegationRecord,
     pub publisher: Key,

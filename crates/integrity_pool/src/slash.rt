@@ -21,7 +21,7 @@ use types::refusals::{
 use types::{Amount, Epoch};
 
 // What a slash is given besides the pool.
-#[derive(Drop)]
+#[derive(Clone, Copy)]
 pub struct Slashing {
     pub delegation_record: DelegationRecord,
     pub delegation: Delegation,

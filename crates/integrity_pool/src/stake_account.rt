@@ -21,7 +21,7 @@ use types::refusals::{
 };
 
 // The keys that a change of a publisher's stake account is given; the accounts by the names of the Rust's SetPublisherStakeAccount.
-#[derive(Drop)]
+#[derive(Clone, Copy)]
 pub struct StakeAccounts {
     pub publisher: Key,
     pub signer: Key,

@@ -1,4 +1,6 @@
 // Reading a journal's lines and writing their answers.
+#![tactic(auto)]
+
 pub mod answer;
 pub mod calls;
 pub mod fields;

@@ -9,7 +9,7 @@ use crate::{calls, fields, input};
 
 // A call and what is read of its line: how many fields, its numbers and keys, how many bytes its message or path has, where the last list
 // begins and ends among the words, where the line goes on, what byte ended it, whether more is to be read, and what was wrong, or 0.
-#[derive(Drop)]
+#[derive(Clone, Copy)]
 pub struct Line {
     pub call: usize,
     pub count: usize,

@@ -11,7 +11,7 @@ use positions::position::Position;
 use positions::{Key, same_key};
 
 // What every walk over a list of records is given: the newest events, the publisher, UNLOCKING_DURATION in epochs.
-#[derive(Drop)]
+#[derive(Clone, Copy)]
 pub struct Walks {
     pub newest: Newest,
     pub publisher: Key,

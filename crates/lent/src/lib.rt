@@ -1,5 +1,7 @@
 // The calls with lent records: a payment over a lent list of position records, and payment and slash with the staker's record lent by `&mut`.
 // They meet the definitions of the calls over words, at the words of the records.
+#![tactic(auto)]
+
 mod gather;
 pub mod payment;
 pub mod slash;

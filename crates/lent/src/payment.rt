@@ -11,7 +11,7 @@ use positions::{Key, OptionKey};
 use types::refusals::{INVALID_IMAGE, INVALID_POSITIONS};
 
 // What a payment is given besides the pool, the positions and the record.
-#[derive(Drop)]
+#[derive(Clone, Copy)]
 pub struct LentClaim {
     pub publisher: Key,
     // The stake account whose positions are paid.

@@ -1,4 +1,6 @@
 // The program over the journal: it reads a line's fields, makes the call, and writes its answer.
+#![tactic(auto)]
+
 mod args;
 mod calls;
 mod change_calls;

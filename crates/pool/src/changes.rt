@@ -19,7 +19,7 @@ use types::refusals::{
 };
 
 // Whose stake with which publisher changes, and when.
-#[derive(Drop)]
+#[derive(Clone, Copy)]
 pub struct Delegation {
     pub publisher: Key,
     // The account whose stake changes.

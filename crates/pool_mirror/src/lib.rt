@@ -1,5 +1,7 @@
 // The static library: one function for each call, with C's calling convention (include/pool_mirror.h). Each returns 0 or the refusal's number, and
 // a refused call leaves pool, record and answer as they were. Arguments stand in the order of the journal's fields.
+#![tactic(auto)]
+
 ghost use Rattle.std.specs.Prelude.{◌≡◌};
 ghost use Rattle.integrity_pool.specs.Calls.{fresh_call, fresh_image, advance_call, advance_image, forecast_call};
 ghost use Rattle.pool_mirror.specs.Inputs.{given_of};

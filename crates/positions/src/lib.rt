@@ -1,13 +1,15 @@
 // Keys, stake positions and their states.
+#![tactic(auto)]
+
 ghost use Rattle.std.specs.Prelude.{◌≡◌};
 ghost use Rattle.positions.specs.Key.{same_key};
 
 // A 32-byte key as four little-endian words, as the image holds it: the Rust's Pubkey.
-#[derive(Drop)]
+#[derive(Clone, Copy)]
 pub struct Key(pub u64, pub u64, pub u64, pub u64);
 
 // An account that may be absent: a key, or none.
-#[derive(Drop)]
+#[derive(Clone, Copy)]
 pub enum OptionKey {
     Some(Key),
     None,

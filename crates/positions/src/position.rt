@@ -8,7 +8,7 @@ use types::{Amount, Epoch};
 
 // The nine words of a position by name. The kind is 0 for an empty position, 1 for voting, 2 for
 // a pool; unlocking has a start where the flag is 1.
-#[derive(Drop)]
+#[derive(Clone, Copy)]
 pub struct Position {
     pub kind: u64,
     pub amount: Amount,

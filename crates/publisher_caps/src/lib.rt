@@ -1,5 +1,7 @@
 // Caps messages, publisher-caps/src/lib.rs: byte 0 a type byte, 1 to 8 the publish time, 9 to 10 the row count, from 11 on rows of a
 // 32-byte key and an 8-byte cap, all big-endian.
+#![tactic(auto)]
+
 ghost use Rattle.std.specs.Prelude.{◌≡◌, ◌+◌, ◌*◌, ◌/◌, ◌%◌, ◌^◌, ◌≤◌, ◌<◌, true, ◌&&◌, ltb, eqb, length};
 ghost use Rattle.publisher_caps.specs.Key.{big_endian, little_endian, swapped, number, number_of, order_of};
 ghost use Rattle.publisher_caps.specs.Message.{time_of, rows_of, row_of, key_at, key_before, first_before, ascends, none_zero, message_holds, Whole};
@@ -18,7 +20,7 @@ pub struct PublisherCap {
 }
 
 // The row that has a key.
-#[derive(Drop)]
+#[derive(Clone, Copy)]
 pub enum Found {
     At(usize),
     Nothing,

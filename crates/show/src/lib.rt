@@ -13,6 +13,8 @@
 // Every line begins with two spaces, and two stand between columns. A seat has 4 places, a fee 7, slash events 12, a side's figures and those of
 // an event 20 each, all to the right; a longer number moves the rest of its line. A key is its first four bytes and its last four, the zero
 // key `none`. Shown are the seats that have a publisher, those behind an empty one too, and the newest events, the newest first.
+#![tactic(auto)]
+
 ghost use Rattle.std.specs.Prelude.{◌≡◌, ◌≤◌, length};
 ghost use Rattle.image.specs.Seats.{Sized};
 ghost use Rattle.journal.specs.Held.{Writable};

@@ -1,4 +1,6 @@
 // Fields of a journal, read from their bytes.
+#![tactic(auto)]
+
 ghost use Rattle.std.specs.Prelude.{◌≡◌, true, ◌+◌, ◌*◌, ◌≤◌, ◌<◌, min, length};
 ghost use Rattle.text.specs.Decimal.{number_of};
 ghost use Rattle.text.specs.Hex.{nibble_of, all_hex, bytes_of, spelled};

@@ -3,7 +3,7 @@ ghost use Rattle.std.specs.Prelude.{◌≡◌, replicate};
 ghost use Rattle.types.specs.BoolArray.{marked, with_mark, marked_rows, OnesOf};
 
 // The Rust's BoolArray, its Vec of bytes a fixed array of words.
-#[derive(Drop)]
+#[derive(Clone, Copy)]
 pub struct BoolArray {
     pub words: [u64; 16],
 }

@@ -1,15 +1,16 @@
 // The three kinds of number in the pool's accounting, each over a word.
+#![tactic(auto)]
 
 // A share in millionths, the Rust's frac64.
-#[derive(Drop)]
+#[derive(Clone, Copy)]
 pub struct Ratio(pub u64);
 
 // An amount in smallest token units.
-#[derive(Drop)]
+#[derive(Clone, Copy)]
 pub struct Amount(pub u64);
 
 // An epoch number.
-#[derive(Drop)]
+#[derive(Clone, Copy)]
 pub struct Epoch(pub u64);
 
 // One whole in millionths.

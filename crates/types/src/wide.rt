@@ -3,7 +3,7 @@ ghost use Rattle.std.specs.Prelude.{◌≡◌, ◌+◌, ◌*◌, ◌^◌, ◌≤
 ghost use Rattle.types.specs.Wide.{wide_of, fit_of};
 
 // A number of two words: hi * 2^64 + lo.
-#[derive(Drop)]
+#[derive(Clone, Copy)]
 pub struct Wide {
     pub hi: u64,
     pub lo: u64,
