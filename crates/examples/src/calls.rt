@@ -11,27 +11,28 @@ use pool::advance::{AdvanceAnswer, ForecastAnswer};
 use pool::changes::{ChangeAnswer, Delegation};
 use positions::Key;
 use positions::position::PositionState;
+use std::io::Stdout;
 use types::{Amount, Epoch, Ratio};
 
-pub fn fresh(row: &[u8], p: usize, before: [u64; 91], epoch: u64) {
+pub fn fresh(to: Stdout, row: &[u8], p: usize, before: [u64; 91], epoch: u64) {
     let mut pool = before;
     let refusal = match integrity_pool::fresh(&mut pool, p, E, epoch) {
         FreshAnswer::Done => 0,
         FreshAnswer::Refused(k) => k,
     };
-    tell::refusal(row, b"fresh", refusal, &before, &pool);
+    tell::refusal(to, row, b"fresh", refusal, &before, &pool);
 }
 
 // The image is lent for reading alone.
-fn forecast(row: &[u8], p: usize, pool: [u64; 91], m: &[u8], given: Given) {
+fn forecast(to: Stdout, row: &[u8], p: usize, pool: [u64; 91], m: &[u8], given: Given) {
     let refusal = match integrity_pool::forecast(&pool, p, E, m, given) {
         ForecastAnswer::SetsAside(_) => 0,
         ForecastAnswer::Refused(k) => k,
     };
-    tell::refusal(row, b"forecast", refusal, &pool, &pool);
+    tell::refusal(to, row, b"forecast", refusal, &pool, &pool);
 }
 
-fn advance(row: &[u8], p: usize, before: [u64; 91], m: &[u8], given: Given) {
+fn advance(to: Stdout, row: &[u8], p: usize, before: [u64; 91], m: &[u8], given: Given) {
     let mut pool = before;
     let refusal = match integrity_pool::advance(&mut pool, p, E, m, given) {
         AdvanceAnswer::Done {
@@ -43,16 +44,23 @@ fn advance(row: &[u8], p: usize, before: [u64; 91], m: &[u8], given: Given) {
         } => 0,
         AdvanceAnswer::Refused(k) => k,
     };
-    tell::refusal(row, b"advance", refusal, &before, &pool);
+    tell::refusal(to, row, b"advance", refusal, &before, &pool);
 }
 
 // An advance and a forecast.
-pub fn both(row: &[u8], p: usize, pool: [u64; 91], m: &[u8], given: Given) {
-    advance(row, p, pool, m, given);
-    forecast(row, p, pool, m, given);
+pub fn both(to: Stdout, row: &[u8], p: usize, pool: [u64; 91], m: &[u8], given: Given) {
+    advance(to, row, p, pool, m, given);
+    forecast(to, row, p, pool, m, given);
 }
 
-pub fn payment(row: &[u8], p: usize, before: [u64; 91], positions: &[u64], claim: Claim) {
+pub fn payment(
+    to: Stdout,
+    row: &[u8],
+    p: usize,
+    before: [u64; 91],
+    positions: &[u64],
+    claim: Claim,
+) {
     let mut pool = before;
     let answer = integrity_pool::payment::advance_delegation_record(
         &mut pool, p, E, positions, claim,
@@ -67,8 +75,8 @@ pub fn payment(row: &[u8], p: usize, before: [u64; 91], positions: &[u64], claim
         } => 0,
         PaymentAnswer::Refused(k) => k,
     };
-    tell::refusal(row, b"payment", refusal, &before, &pool);
-    forms::payment(row, p, before, positions, claim);
+    tell::refusal(to, row, b"payment", refusal, &before, &pool);
+    forms::payment(to, row, p, before, positions, claim);
 }
 
 fn change_refusal(answer: ChangeAnswer) -> u64 {
@@ -78,25 +86,32 @@ fn change_refusal(answer: ChangeAnswer) -> u64 {
     }
 }
 
-pub fn add(row: &[u8], p: usize, before: [u64; 91], whose: Delegation) {
+pub fn add(to: Stdout, row: &[u8], p: usize, before: [u64; 91], whose: Delegation) {
     let mut pool = before;
     let answer = changes::add_delegation(&mut pool, p, E, whose, Amount(1));
-    tell::refusal(row, b"add", change_refusal(answer), &before, &pool);
+    tell::refusal(to, row, b"add", change_refusal(answer), &before, &pool);
 }
 
-pub fn remove(row: &[u8], p: usize, before: [u64; 91], whose: Delegation, state: PositionState) {
+pub fn remove(
+    to: Stdout,
+    row: &[u8],
+    p: usize,
+    before: [u64; 91],
+    whose: Delegation,
+    state: PositionState,
+) {
     let mut pool = before;
     let answer = changes::remove_delegation(&mut pool, p, E, whose, Amount(1), state);
-    tell::refusal(row, b"remove", change_refusal(answer), &before, &pool);
+    tell::refusal(to, row, b"remove", change_refusal(answer), &before, &pool);
 }
 
-pub fn fee(row: &[u8], p: usize, before: [u64; 91], fee: Ratio) {
+pub fn fee(to: Stdout, row: &[u8], p: usize, before: [u64; 91], fee: Ratio) {
     let mut pool = before;
     let answer = changes::update_delegation_fee(&mut pool, p, E, fee);
-    tell::refusal(row, b"fee", change_refusal(answer), &before, &pool);
+    tell::refusal(to, row, b"fee", change_refusal(answer), &before, &pool);
 }
 
-pub fn create(row: &[u8], p: usize, before: [u64; 91], publisher: Key, index: u64) {
+pub fn create(to: Stdout, row: &[u8], p: usize, before: [u64; 91], publisher: Key, index: u64) {
     let mut pool = before;
     let answer = integrity_pool::slash::create_slash_event(
         &mut pool,
@@ -110,20 +125,21 @@ pub fn create(row: &[u8], p: usize, before: [u64; 91], publisher: Key, index: u6
         CreateAnswer::Created(_) => 0,
         CreateAnswer::Refused(k) => k,
     };
-    tell::refusal(row, b"create slash event", refusal, &before, &pool);
+    tell::refusal(to, row, b"create slash event", refusal, &before, &pool);
 }
 
-pub fn slash(row: &[u8], p: usize, before: [u64; 91], slashing: Slashing) {
+pub fn slash(to: Stdout, row: &[u8], p: usize, before: [u64; 91], slashing: Slashing) {
     let mut pool = before;
     let refusal = match integrity_pool::slash::slash(&mut pool, p, E, slashing) {
         SlashAnswer::Slashed(_) => 0,
         SlashAnswer::Refused(k) => k,
     };
-    tell::refusal(row, b"slash", refusal, &before, &pool);
-    forms::slash(row, p, before, slashing);
+    tell::refusal(to, row, b"slash", refusal, &before, &pool);
+    forms::slash(to, row, p, before, slashing);
 }
 
 pub fn account(
+    to: Stdout,
     row: &[u8],
     p: usize,
     before: [u64; 91],
@@ -136,6 +152,7 @@ pub fn account(
         &mut pool, p, E, old, new, accounts,
     );
     tell::refusal(
+        to,
         row,
         b"stake account",
         change_refusal(answer),

@@ -10,6 +10,7 @@ use lent::slash::{LentSlashing, slash_by_value};
 use positions::Key;
 use positions::list::position_at;
 use positions::position::Position;
+use std::io::Stdout;
 use types::{Amount, Epoch};
 
 // What a call left: the image, its answer as words, and the record to store.
@@ -215,32 +216,32 @@ fn agree(a: Outcome, b: Outcome) -> bool
     same_record(record_a, record_b)
 }
 
-pub fn payment(row: &[u8], p: usize, before: [u64; 91], words: &[u64], claim: Claim) {
+pub fn payment(to: Stdout, row: &[u8], p: usize, before: [u64; 91], words: &[u64], claim: Claim) {
     let core = over_words(p, before, words, claim);
     let form = over_records(p, before, words, claim);
     let answer = form.answer;
-    tell::call(row, b"payment over records", answer[REFUSAL]);
-    tell::agreement(agree(core, form), b"over words");
+    tell::call(to, row, b"payment over records", answer[REFUSAL]);
+    tell::agreement(to, agree(core, form), b"over words");
     if answer[REFUSED] == 0 {
-        tell::value(b": delegator ", answer[DELEGATOR]);
-        tell::value(b", publisher ", answer[PUBLISHER]);
-        tell::value(b", custody falls ", answer[CUSTODY]);
-        tell::value(b", reads ", answer[READS]);
-        tell::value(b", record at ", answer[LAST_EPOCH]);
-        tell::value(b", next ", answer[NEXT_INDEX]);
+        tell::value(to, b": delegator ", answer[DELEGATOR]);
+        tell::value(to, b", publisher ", answer[PUBLISHER]);
+        tell::value(to, b", custody falls ", answer[CUSTODY]);
+        tell::value(to, b", reads ", answer[READS]);
+        tell::value(to, b", record at ", answer[LAST_EPOCH]);
+        tell::value(to, b", next ", answer[NEXT_INDEX]);
     }
-    tell::text(b"\n");
+    tell::text(to, b"\n");
 }
 
-pub fn slash(row: &[u8], p: usize, before: [u64; 91], slashing: Slashing) {
+pub fn slash(to: Stdout, row: &[u8], p: usize, before: [u64; 91], slashing: Slashing) {
     let core = by_value(p, before, slashing);
     let form = of_lent_record(p, before, slashing);
     let answer = form.answer;
-    tell::call(row, b"slash of a lent record", answer[REFUSAL]);
-    tell::agreement(agree(core, form), b"by value");
+    tell::call(to, row, b"slash of a lent record", answer[REFUSAL]);
+    tell::agreement(to, agree(core, form), b"by value");
     if answer[REFUSED] == 0 {
-        tell::value(b": record at ", answer[LAST_EPOCH]);
-        tell::value(b", next ", answer[NEXT_INDEX]);
+        tell::value(to, b": record at ", answer[LAST_EPOCH]);
+        tell::value(to, b", next ", answer[NEXT_INDEX]);
     }
-    tell::text(b"\n");
+    tell::text(to, b"\n");
 }

@@ -1,13 +1,27 @@
 // What stands at a path, as lstat tells it.
 #![tactic(auto)]
 
-ghost use Rattle.std.specs.Prelude.{◌≡◌, false, ◌<◌, length};
-ghost use Rattle.libc.specs.Io.{Ended};
-ghost use Rattle.file_type.specs.Path.{is_path, zeros, ended_path};
+ghost use Rattle.std.specs.Prelude.{◌≡◌, pos, negsuc, false, MatchResult, unwrap_or};
+ghost use Rattle.std.specs.Fs.{metadata_mode};
+ghost use Rattle.std.specs.IoError.{raw_os_error};
+ghost use Rattle.file_type.specs.Path.{is_path};
 ghost use Rattle.file_type.specs.Told.{told_of};
 
-use libc::PATH_MAX;
-use libc::types::{stat, timespec};
+use std::fs::Metadata;
+use std::os::unix::fs::MetadataExt;
+use std::rt::Files;
+use std::{fs, io};
+
+// What a path's bytes are below, the 0 that the system has behind them counted.
+const PATH_MAX: usize = 4096;
+
+// The bits of a mode that say what kind of file it is, and what they are of a regular one.
+const S_IFMT: u32 = 0o170000;
+
+const S_IFREG: u32 = 0o100000;
+
+// The error where nothing stands at a path.
+const ENOENT: i32 = 2;
 
 // What stands at a path; a link is not followed.
 #[derive(Drop)]
@@ -17,10 +31,11 @@ pub enum FileType {
     Other,
 }
 
-// What lstat answered, and the mode that it left.
+// What lstat answered, the error behind a failure, and the mode that it left.
 #[derive(Drop)]
 struct Looked {
     status: i32,
+    error: i32,
     mode: u32,
 }
 
@@ -38,62 +53,27 @@ fn is_path(path: &[u8]) -> bool
     path.len() < PATH_MAX
 }
 
-// Room for a path.
-fn zeros() -> [u8; PATH_MAX]
-    ensures { result ≡ zeros }
+// A look at a path, in lstat's numbers: 0 and a mode where something stands there, or a failure and its error.
+fn answered(found: io::Result<Metadata>) -> Looked
+    ensures { MatchResult found (λ m. (result.status ≡ pos 0) × (result.mode ≡ metadata_mode m)) (λ e. (result.status ≡ negsuc 0) × (result.error ≡ unwrap_or (raw_os_error e) (pos 0))) }
 {
-    [0; PATH_MAX]
-}
-
-// The path, and zeros behind it.
-fn ended(path: &[u8]) -> [u8; PATH_MAX]
-    requires { length path.now < 4096 }
-    ensures { result ≡ ended_path path.now }
-{
-    let mut ended = zeros();
-    let mut i = 0;
-    while i < path.len() {
-        ended[i] = path[i];
-        i += 1;
-    }
-    ended
-}
-
-// A stat for the system to fill.
-fn blank() -> stat {
-    let never = timespec {
-        tv_sec: 0,
-        tv_nsec: 0,
-    };
-    let unused = [0i64; 3];
-    stat {
-        st_dev: 0,
-        st_ino: 0,
-        st_nlink: 0,
-        st_mode: 0,
-        st_uid: 0,
-        st_gid: 0,
-        __pad: 0,
-        st_rdev: 0,
-        st_size: 0,
-        st_blksize: 0,
-        st_blocks: 0,
-        st_atim: never,
-        st_mtim: never,
-        st_ctim: never,
-        __unused: unused,
+    match found {
+        Ok(metadata) => Looked {
+            status: 0,
+            error: 0,
+            mode: metadata.mode(),
+        },
+        Err(e) => Looked {
+            status: -1,
+            error: e.raw_os_error().unwrap_or(0),
+            mode: 0,
+        },
     }
 }
 
-// One lstat, which fills `found`. The borrow checker covers no `&mut` to a struct, so this is proved by hand, and does nothing else.
-fn look(path: &[u8; PATH_MAX], mut found: stat) -> Looked
-    requires { Ended path.now }
-{
-    let status = libc::lstat(path, &mut found);
-    Looked {
-        status,
-        mode: found.st_mode,
-    }
+// One look at a path, which follows no link.
+fn look(rt: &impl Files, path: &str) -> Looked {
+    answered(fs::symlink_metadata(rt, path))
 }
 
 // What lstat's answer comes to: 0, with the mode that it left, or a failure, with the error behind it.
@@ -101,26 +81,27 @@ fn told(status: i32, error: i32, mode: u32) -> FileType
     ensures { result ≡ told_of status error mode }
 {
     if status == 0 {
-        if mode & libc::S_IFMT == libc::S_IFREG {
+        if mode & S_IFMT == S_IFREG {
             return FileType::Regular;
         }
         return FileType::Other;
     }
-    if error == libc::ENOENT {
+    if error == ENOENT {
         return FileType::Nothing;
     }
     FileType::Other
 }
 
-// What stands at the path. `Other` also where the system can't tell, and where the path has a 0 byte or more than 4,095 bytes.
-pub fn file_type(path: &[u8]) -> FileType
+// What stands at the path. `Other` also where the system can't tell, and where the path has a 0 byte or more than 4,095 bytes, or is no UTF-8.
+pub fn file_type(rt: &impl Files, path: &[u8]) -> FileType
     ensures { is_path path.now ≡ false → result ≡ FileType.Other }
 {
     if !is_path(path) {
         return FileType::Other;
     }
-    let whole = ended(path);
-    let looked = look(&whole, blank());
-    let error = os::errno();
-    told(looked.status, error, looked.mode)
+    let Ok(text) = str::from_utf8(path) else {
+        return FileType::Other;
+    };
+    let looked = look(rt, text);
+    told(looked.status, looked.error, looked.mode)
 }

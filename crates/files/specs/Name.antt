@@ -1,5 +1,5 @@
 -- The second name under which a file is written, and the name of its folder. Assumes nothing.
-use Rattle.std.specs.Prelude.{◌≡◌, cond, List, [], ◌∷◌, ◌++◌, ℕ, zero, suc, ◌+◌, ◌/◌, ◌%◌, ◌≤◌, ◌<◌, eqb, leb, ltb, length, take, ℤ, pos, negsuc}
+use Rattle.std.specs.Prelude.{◌≡◌, cond, List, [], ◌∷◌, ◌++◌, ℕ, zero, suc, ◌+◌, ◌/◌, ◌%◌, ◌≤◌, ◌<◌, eqb, leb, ltb, length, take, ℤ, pos, negsuc, None}
 use Rattle.text.specs.Items.{Last}
 use Rattle.files.specs.declared.second.Second.{Second}
 
@@ -41,10 +41,10 @@ pub record PutAt (s old new : List ℕ) (at r : ℕ) : Type 0 where
   pub put : take r new ≡ take at old ++ s
 
 -- a file was to be made: the name that was tried last stands in the space of a size, one of a hundred; without room for it there is no file
-pub record SecondMade (path : List ℕ) (process size : ℕ) (new : List ℕ) (r : Second) : Type 0 where
+pub record SecondMade {F : Type 0} (path : List ℕ) (process size : ℕ) (new : List ℕ) (r : Second F) : Type 0 where
   pub below : r.number < 100
   pub named : NameMade (second_name path process r.number) size new r.count
-  pub none : r.count ≡ 0 → r.fd ≡ negsuc 0
+  pub none : r.count ≡ 0 → r.file ≡ None
 
 -- how many bytes of a path of a size name its folder, its last slash standing at `at`, and at its size where it has none: those before the slash,
 -- the slash itself where it is the first byte

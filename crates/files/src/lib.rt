@@ -2,6 +2,7 @@
 #![tactic(auto)]
 
 mod name;
+mod path;
 mod read;
 mod second;
 mod words;
@@ -12,6 +13,9 @@ ghost use Rattle.files.specs.Answers.{count_of, LongRefused};
 ghost use Rattle.files.specs.Name.{FolderOf};
 
 use file_type::FileType;
+use std::fs::OpenFile;
+use std::process::Process;
+use std::rt::Files;
 use text::items;
 
 // What a load came to: how many words stand at the start of the room, a file that ends within a word, or one that can't be read.
@@ -32,17 +36,14 @@ pub enum Saved {
 }
 
 // The words of a file, at the start of `room`. What is behind the room is not read.
-pub fn load(path: &[u8], room: &mut [u64]) -> Loaded
+pub fn load(rt: &impl Files, path: &[u8], room: &mut [u64]) -> Loaded
     ensures { count_of result ≤ length room.old }
 {
-    let fd = os::open_read(path);
-    if fd < 0 {
+    let Ok(mut file) = path::open_read(rt, path) else {
         return Loaded::CannotRead;
-    }
+    };
     let mut buffer = io::large_buffer();
-    let done = read::load_all(fd, &mut buffer, room);
-    libc::close(fd);
-    done
+    read::load_all(&mut file, &mut buffer, room)
 }
 
 // How many bytes of a path are its folder's name: those before the last `/`, or that one where it is the first byte; 0 where there is none.
@@ -60,48 +61,45 @@ fn folder_of(path: &[u8]) -> usize
 }
 
 // Opens the folder of a path for reading.
-fn open_folder(path: &[u8]) -> i32 {
+fn open_folder<R: Files>(rt: &R, path: &[u8]) -> std::io::Result<R::File> {
     let n = folder_of(path);
     if n == 0 {
-        return os::open_read(b".");
+        return path::open_read(rt, b".");
     }
-    os::open_read(&path[..n])
+    path::open_read(rt, &path[..n])
 }
 
 // The file becomes the words, and its folder, which is open, is written through.
-fn save_in(folder: i32, path: &[u8], pool: &[u64]) -> Saved
+fn save_in<R: Files>(rt: &R, process: Process, folder: &R::File, path: &[u8], pool: &[u64]) -> Saved
     ensures { LongRefused path.now result }
 {
     let mut space = io::buffer();
-    if !second::save_by(path, &mut space[..4095], pool) {
+    if !second::save_by(rt, process, path, &mut space[..4095], pool) {
         return Saved::CannotWrite;
     }
-    if libc::fsync(folder) != 0 {
+    if folder.sync_all().is_err() {
         return Saved::FolderUnwritten;
     }
     Saved::Done
 }
 
 // Opens the folder before anything is made, and closes it behind the rest.
-fn save_there(path: &[u8], pool: &[u64]) -> Saved
+fn save_there(rt: &impl Files, process: Process, path: &[u8], pool: &[u64]) -> Saved
     ensures { LongRefused path.now result }
 {
-    let folder = open_folder(path);
-    if folder < 0 {
+    let Ok(folder) = open_folder(rt, path) else {
         return Saved::CannotWrite;
-    }
-    let done = save_in(folder, path, pool);
-    libc::close(folder);
-    done
+    };
+    save_in(rt, process, &folder, path, pool)
 }
 
 // The file becomes the words. A regular file is written over, and nothing else.
-pub fn save(path: &[u8], pool: &[u64]) -> Saved
+pub fn save(rt: &impl Files, process: Process, path: &[u8], pool: &[u64]) -> Saved
     ensures { LongRefused path.now result }
 {
-    match file_type::file_type(path) {
-        FileType::Nothing => save_there(path, pool),
-        FileType::Regular => save_there(path, pool),
+    match file_type::file_type(rt, path) {
+        FileType::Nothing => save_there(rt, process, path, pool),
+        FileType::Regular => save_there(rt, process, path, pool),
         FileType::Other => Saved::CannotWrite,
     }
 }

@@ -2,12 +2,14 @@
 ghost use Rattle.std.specs.Prelude.{◌≡◌, false, ◌+◌, ◌<◌, length};
 ghost use Rattle.files.specs.Name.{number_of, SecondMade};
 
-use crate::{name, write};
+use crate::{name, path, write};
+use std::process::Process;
+use std::rt::Files;
 
-// The descriptor of a new file, or -1, the length of the name that was tried last, and that name's number.
+// A new file, or none, the length of the name that was tried last, and that name's number.
 #[derive(Drop)]
-struct Second {
-    fd: i32,
+struct Second<F> {
+    file: Option<F>,
     count: usize,
     number: u64,
 }
@@ -23,7 +25,7 @@ fn number_of(pid: i32) -> u64
 }
 
 // Makes a file under the first of its second names that is not taken.
-fn make(path: &[u8], process: u64, space: &mut [u8]) -> Second
+fn make<R: Files>(rt: &R, path: &[u8], process: u64, space: &mut [u8]) -> Second<R::File>
     ensures { SecondMade path.now process (length space.old) space.new result }
 {
     let mut number = 0;
@@ -31,18 +33,21 @@ fn make(path: &[u8], process: u64, space: &mut [u8]) -> Second
         let count = name::second_name(path, process, number, &mut space[..]);
         if count == 0 {
             return Second {
-                fd: -1,
+                file: None,
                 count,
                 number,
             };
         }
-        let fd = os::create(&space[..count]);
-        if 0 <= fd {
-            return Second { fd, count, number };
+        if let Ok(file) = path::create(rt, &space[..count]) {
+            return Second {
+                file: Some(file),
+                count,
+                number,
+            };
         }
         if number == 99 {
             return Second {
-                fd: -1,
+                file: None,
                 count,
                 number,
             };
@@ -52,31 +57,38 @@ fn make(path: &[u8], process: u64, space: &mut [u8]) -> Second
 }
 
 // Writes the words to the open file `second`, which then becomes the file `path`. Where a step fails, `second` is removed and `path` stays.
-fn save_as(fd: i32, second: &[u8], path: &[u8], pool: &[u64]) -> bool {
+fn save_as<R: Files>(rt: &R, file: R::File, second: &[u8], path: &[u8], pool: &[u64]) -> bool {
+    let mut file = file;
     let mut buffer = io::large_buffer();
-    let done = write::save_all(fd, &mut buffer, pool);
-    let closed = libc::close(fd);
+    let done = write::save_all(&mut file, &mut buffer, pool);
+    drop(file);
     if done {
-        if closed == 0 {
-            if os::rename(second, path) == 0 {
-                return true;
-            }
+        if path::rename(rt, second, path).is_ok() {
+            return true;
         }
     }
-    os::unlink(second);
+    let _ = path::remove(rt, second);
     false
 }
 
 // Saves by way of a second name, for which `space` is lent.
-pub fn save_by(path: &[u8], space: &mut [u8], pool: &[u64]) -> bool
+pub fn save_by(
+    rt: &impl Files,
+    process: Process,
+    path: &[u8],
+    space: &mut [u8],
+    pool: &[u64],
+) -> bool
     ensures { length space.old < length path.now + 8 → result ≡ false }
 {
-    let process = number_of(libc::getpid());
-    let second = make(path, process, &mut space[..]);
-    let fd = second.fd;
-    if fd < 0 {
+    let number = number_of(std::process::id(process).cast_signed());
+    let Second {
+        file,
+        count,
+        number: _,
+    } = make(rt, path, number, &mut space[..]);
+    let Some(file) = file else {
         return false;
-    }
-    let n = second.count;
-    save_as(fd, &space[..n], path, pool)
+    };
+    save_as(rt, file, &space[..count], path, pool)
 }

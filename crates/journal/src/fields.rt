@@ -7,6 +7,7 @@ ghost use Rattle.journal.specs.Calls.{call_of};
 ghost use Rattle.journal.specs.Fields.{what_of, put, what_key, put_key, state_of, what_state, put_state, what_call, put_call, is_none, what_value, put_value, MessageRead, PathRead, count_words, what_words, ListRead, room_of, unended_of, wrong_field};
 
 use crate::{calls, input};
+use std::io::Stdin;
 use text::items::WordsRead;
 use text::{BytesRead, KeyRead, Number, items};
 
@@ -306,11 +307,18 @@ fn cut_part(input: &[u8], from: usize, to: usize, end: usize, out: &mut [u64]) -
 }
 
 // The part of a word list that begins at `at`: all of it, or what the buffer holds.
-fn part(input: &mut [u8], at: usize, upto: usize, first: bool, out: &mut [u64]) -> Listed
+fn part(
+    stdin: Stdin,
+    input: &mut [u8],
+    at: usize,
+    upto: usize,
+    first: bool,
+    out: &mut [u64],
+) -> Listed
     requires { Unread at upto (length input.old) × (0 < length out.old) }
     ensures { Parted result.at result.end result.count result.more (length input.old) (length out.old) }
 {
-    let it = input::next_item(&mut input[..], at, upto);
+    let it = input::next_item(stdin, &mut input[..], at, upto);
     let from = it.from;
     let to = it.to;
     let end = it.end;
@@ -339,11 +347,11 @@ fn part(input: &mut [u8], at: usize, upto: usize, first: bool, out: &mut [u64]) 
 }
 
 // A list whose room is full, `count` words: what is left of it is passed over.
-fn pass_rest(input: &mut [u8], at: usize, upto: usize, count: usize) -> Listed
+fn pass_rest(stdin: Stdin, input: &mut [u8], at: usize, upto: usize, count: usize) -> Listed
     requires { Unread at upto (length input.old) }
     ensures { Unread result.at result.end (length input.old) × (result.count ≡ count) }
 {
-    let over = input::pass_over(input, at, upto, input::ITEM);
+    let over = input::pass_over(stdin, input, at, upto, input::ITEM);
     Listed {
         count,
         at: over.at,
@@ -354,7 +362,7 @@ fn pass_rest(input: &mut [u8], at: usize, upto: usize, count: usize) -> Listed
 }
 
 // A word list, part by part, as far as it has room.
-pub fn words(input: &mut [u8], start: usize, upto: usize, out: &mut [u64]) -> Listed
+pub fn words(stdin: Stdin, input: &mut [u8], start: usize, upto: usize, out: &mut [u64]) -> Listed
     requires { Unread start upto (length input.old) }
     ensures { Unread result.at result.end (length input.old) × (result.count ≤ length out.old) }
 {
@@ -362,7 +370,14 @@ pub fn words(input: &mut [u8], start: usize, upto: usize, out: &mut [u64]) -> Li
     let mut end = upto;
     let mut count = 0;
     while count < out.len() {
-        let next = part(&mut input[..], at, end, count == 0, &mut out[count..]);
+        let next = part(
+            stdin,
+            &mut input[..],
+            at,
+            end,
+            count == 0,
+            &mut out[count..],
+        );
         at = next.at;
         end = next.end;
         count += next.count;
@@ -376,7 +391,7 @@ pub fn words(input: &mut [u8], start: usize, upto: usize, out: &mut [u64]) -> Li
             };
         }
     }
-    pass_rest(input, at, end, count)
+    pass_rest(stdin, input, at, end, count)
 }
 
 // The room for a list, of what is left: a position list has its own.

@@ -3,6 +3,8 @@ ghost use Rattle.std.specs.Prelude.{◌≡◌, ◌<◌, ◌≤◌, length};
 ghost use Rattle.journal.specs.Held.{Unread, Found};
 ghost use Rattle.journal.specs.Bytes.{has, is_over, ends_at, counted_of};
 
+use std::io::{Read, Stdin};
+
 // What stands where no byte does; each is above every byte.
 pub const END: usize = 256;
 
@@ -40,24 +42,28 @@ fn widened(b: u8) -> usize {
 }
 
 // Why a read brought nothing.
-fn reason(got: isize) -> usize
+fn reason(failed: bool) -> usize
     ensures { 256 ≤ result }
 {
-    if got < 0 {
+    if failed {
         return FAILED;
     }
     END
 }
 
 // One read of standard input.
-fn more(room: &mut [u8]) -> Got
+fn more(mut stdin: Stdin, room: &mut [u8]) -> Got
     ensures { (result.count ≤ length room.old) × (256 ≤ result.none) }
 {
-    let got = libc::read(libc::STDIN_FILENO, room);
-    let none = reason(got);
-    Got {
-        count: io::count(got, room),
-        none,
+    match stdin.read(room) {
+        Ok(count) => Got {
+            count,
+            none: reason(false),
+        },
+        Err(_) => Got {
+            count: 0,
+            none: reason(true),
+        },
     }
 }
 
@@ -120,7 +126,7 @@ fn found(from: usize, to: usize, end: usize, stop: usize) -> Item
 }
 
 // The item that begins at `at`. Where no separator is at hand, the item moves to the start and more is read.
-pub fn next_item(input: &mut [u8], at: usize, upto: usize) -> Item
+pub fn next_item(stdin: Stdin, input: &mut [u8], at: usize, upto: usize) -> Item
     requires { Unread at upto (length input.old) }
     ensures { Found result.from result.to result.end result.stop (length input.old) }
 {
@@ -137,7 +143,7 @@ pub fn next_item(input: &mut [u8], at: usize, upto: usize) -> Item
             return found(from, end, end, TOO_LONG);
         }
         shift(&mut input[..], from, end);
-        let read = more(&mut input[held..]);
+        let read = more(stdin, &mut input[held..]);
         let got = read.count;
         from = 0;
         seen = held;
@@ -169,7 +175,7 @@ fn is_over(over: u8, byte: usize) -> bool
 }
 
 // Passes over bytes, and leaves the first one that stays to be read.
-pub fn pass_over(input: &mut [u8], start: usize, upto: usize, over: u8) -> Peek
+pub fn pass_over(stdin: Stdin, input: &mut [u8], start: usize, upto: usize, over: u8) -> Peek
     requires { Unread start upto (length input.old) }
     ensures { Found result.at result.at result.end result.byte (length input.old) }
 {
@@ -185,7 +191,7 @@ pub fn pass_over(input: &mut [u8], start: usize, upto: usize, over: u8) -> Peek
             }
             at += 1;
         } else {
-            let read = more(&mut input[..]);
+            let read = more(stdin, &mut input[..]);
             at = 0;
             end = read.count;
             if end == 0 {
@@ -201,12 +207,12 @@ pub fn pass_over(input: &mut [u8], start: usize, upto: usize, over: u8) -> Peek
 }
 
 // Passes over the rest of an item that was met up to `start`, where the buffer couldn't hold it.
-fn pass_item(input: &mut [u8], start: usize, upto: usize, stop: usize) -> Peek
+fn pass_item(stdin: Stdin, input: &mut [u8], start: usize, upto: usize, stop: usize) -> Peek
     requires { Unread start upto (length input.old) }
     ensures { Unread result.at result.end (length input.old) }
 {
     if stop == TOO_LONG {
-        return pass_over(input, start, upto, ITEM);
+        return pass_over(stdin, input, start, upto, ITEM);
     }
     Peek {
         at: start,
@@ -216,7 +222,7 @@ fn pass_item(input: &mut [u8], start: usize, upto: usize, stop: usize) -> Peek
 }
 
 // The byte behind a carriage return at `at`, which moves to the start where more must be read.
-fn behind(input: &mut [u8], at: usize, upto: usize) -> Peek
+fn behind(stdin: Stdin, input: &mut [u8], at: usize, upto: usize) -> Peek
     requires { (at < upto) × (upto ≤ length input.old) }
     ensures { Found result.at result.at result.end result.byte (length input.old) × (0 < result.at) }
 {
@@ -229,7 +235,7 @@ fn behind(input: &mut [u8], at: usize, upto: usize) -> Peek
         };
     }
     shift(&mut input[..], at, upto);
-    let read = more(&mut input[1..]);
+    let read = more(stdin, &mut input[1..]);
     let end = 1 + read.count;
     if end == 1 {
         return Peek {
@@ -246,15 +252,15 @@ fn behind(input: &mut [u8], at: usize, upto: usize) -> Peek
 }
 
 // Passes over spaces, and over a carriage return at the line's end.
-pub fn next_byte(input: &mut [u8], start: usize, upto: usize) -> Peek
+pub fn next_byte(stdin: Stdin, input: &mut [u8], start: usize, upto: usize) -> Peek
     requires { Unread start upto (length input.old) }
     ensures { Found result.at result.at result.end result.byte (length input.old) }
 {
-    let here = pass_over(&mut input[..], start, upto, SPACES);
+    let here = pass_over(stdin, &mut input[..], start, upto, SPACES);
     if here.byte != 13 {
         return here;
     }
-    let next = behind(input, here.at, here.end);
+    let next = behind(stdin, input, here.at, here.end);
     if ends(next.byte) {
         return next;
     }
@@ -266,12 +272,12 @@ pub fn next_byte(input: &mut [u8], start: usize, upto: usize) -> Peek
 }
 
 // The same behind an item that ended with `stop`.
-pub fn next_behind(input: &mut [u8], start: usize, upto: usize, stop: usize) -> Peek
+pub fn next_behind(stdin: Stdin, input: &mut [u8], start: usize, upto: usize, stop: usize) -> Peek
     requires { Unread start upto (length input.old) }
     ensures { Found result.at result.at result.end result.byte (length input.old) }
 {
-    let rest = pass_item(&mut input[..], start, upto, stop);
-    next_byte(input, rest.at, rest.end)
+    let rest = pass_item(stdin, &mut input[..], start, upto, stop);
+    next_byte(stdin, input, rest.at, rest.end)
 }
 
 // Whether a line ends at a byte, or the input does.

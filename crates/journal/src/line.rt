@@ -6,6 +6,7 @@ ghost use Rattle.journal.specs.Fields.{cut_of};
 
 use crate::fields::Stored;
 use crate::{calls, fields, input};
+use std::io::Stdin;
 
 // A call and what is read of its line: how many fields, its numbers and keys, how many bytes its message or path has, where the last list
 // begins and ends among the words, where the line goes on, what byte ended it, whether more is to be read, and what was wrong, or 0.
@@ -171,6 +172,7 @@ fn store(
 
 // Field k of a call, of one item; a carriage return at the line's end is no part of it.
 fn one_field(
+    stdin: Stdin,
     line: Line,
     kind: u8,
     k: usize,
@@ -182,7 +184,7 @@ fn one_field(
     requires { Unread at upto (length input.old) × (k < 10) × (line.bytes ≤ length bytes.old) × (line.list ≤ line.words) }
     ensures { Filled result.at result.end result.bytes result.list result.words (length input.old) (length bytes.old) line.words }
 {
-    let it = input::next_item(&mut input[..], at, upto);
+    let it = input::next_item(stdin, &mut input[..], at, upto);
     let from = it.from;
     let to = it.to;
     let last = from + input::counted(&input[from..to], it.stop);
@@ -193,6 +195,7 @@ fn one_field(
 
 // Field k of a call, a list that goes behind those before it.
 fn list_field(
+    stdin: Stdin,
     line: Line,
     kind: u8,
     input: &mut [u8],
@@ -205,7 +208,7 @@ fn list_field(
 {
     let from = line.words;
     let to = from + fields::room(kind, words.len() - from);
-    let list = fields::words(input, at, upto, &mut words[from..to]);
+    let list = fields::words(stdin, input, at, upto, &mut words[from..to]);
     let args = line.args;
     line.field(
         args,
@@ -221,6 +224,7 @@ fn list_field(
 
 // Field k of a call.
 fn field(
+    stdin: Stdin,
     line: Line,
     kind: u8,
     k: usize,
@@ -234,9 +238,9 @@ fn field(
     ensures { Filled result.at result.end result.bytes result.list result.words (length input.old) (length bytes.old) (length words.old) }
 {
     if is_list(kind) {
-        return list_field(line, kind, input, at, upto, words);
+        return list_field(stdin, line, kind, input, at, upto, words);
     }
-    one_field(line, kind, k, input, at, upto, bytes)
+    one_field(stdin, line, kind, k, input, at, upto, bytes)
 }
 
 // What the byte before field k says: the line's end, a field too many, or a field.
@@ -255,6 +259,7 @@ fn met(line: Line, call: usize, k: usize, at: usize, end: usize, stop: usize) ->
 
 // Field k of a call, or the line's end.
 fn next_field(
+    stdin: Stdin,
     line: Line,
     call: usize,
     k: usize,
@@ -265,10 +270,11 @@ fn next_field(
     requires { Filled line.at line.end line.bytes line.list line.words (length input.old) (length bytes.old) (length words.old) × (call < call_count) × (k < 10) }
     ensures { Filled result.at result.end result.bytes result.list result.words (length input.old) (length bytes.old) (length words.old) }
 {
-    let next = input::next_behind(&mut input[..], line.at, line.end, line.stop);
+    let next = input::next_behind(stdin, &mut input[..], line.at, line.end, line.stop);
     let here = met(line, call, k, next.at, next.end, next.byte);
     if here.more {
         return field(
+            stdin,
             here,
             calls::kind(call, k),
             k,
@@ -284,6 +290,7 @@ fn next_field(
 
 // Reads the fields of a call up to the line's end.
 fn read_fields(
+    stdin: Stdin,
     call: usize,
     input: &mut [u8],
     at: usize,
@@ -298,6 +305,7 @@ fn read_fields(
     let mut k = 0;
     while k < 10 {
         line = next_field(
+            stdin,
             line,
             call,
             k,
@@ -315,6 +323,7 @@ fn read_fields(
 
 // Reads a line that begins with a call's name at `start`. A message or a path goes to `bytes`, lists of words to `words`.
 pub fn read_line(
+    stdin: Stdin,
     input: &mut [u8],
     start: usize,
     upto: usize,
@@ -324,7 +333,7 @@ pub fn read_line(
     requires { Unread start upto (length input.old) }
     ensures { Filled result.at result.end result.bytes result.list result.words (length input.old) (length bytes.old) (length words.old) }
 {
-    let name = input::next_item(&mut input[..], start, upto);
+    let name = input::next_item(stdin, &mut input[..], start, upto);
     let from = name.from;
     let to = name.to;
     let end = name.end;
@@ -337,5 +346,5 @@ pub fn read_line(
     if call == 0 {
         return Line::new(0, to, end, fields::UNKNOWN_CALL);
     }
-    read_fields(call, input, to, end, bytes, words)
+    read_fields(stdin, call, input, to, end, bytes, words)
 }

@@ -2,18 +2,25 @@
 ghost use Rattle.std.specs.Prelude.{◌≡◌, ◌<◌, ◌≤◌, true, length};
 ghost use Rattle.journal.specs.Held.{Writable};
 
-// The next free place of the buffer, and whether every write so far took all its bytes.
-#[derive(Drop)]
+use std::io::Stdout;
+
+// Standard output, the next free place of the buffer, and whether every write so far took all its bytes.
+#[derive(Clone, Copy)]
 pub struct Pen {
+    pub to: Stdout,
     pub at: usize,
     pub ok: bool,
 }
 
 impl Pen {
-    pub fn new() -> Self
+    pub fn new(to: Stdout) -> Self
         ensures { (result.at ≡ 0) × (result.ok ≡ true) }
     {
-        Self { at: 0, ok: true }
+        Self {
+            to,
+            at: 0,
+            ok: true,
+        }
     }
 }
 
@@ -22,12 +29,17 @@ pub fn flush(out: &[u8], pen: Pen) -> Pen
     requires { pen.at ≤ length out.now }
     ensures { result.at ≡ 0 }
 {
+    let to = pen.to;
     if !pen.ok {
-        return Pen { at: 0, ok: false };
+        return Pen {
+            to,
+            at: 0,
+            ok: false,
+        };
     }
     let at = pen.at;
-    let ok = io::write_all(libc::STDOUT_FILENO, &out[..at]);
-    Pen { at: 0, ok }
+    let ok = to.write_all(&out[..at]).is_ok();
+    Pen { to, at: 0, ok }
 }
 
 // One byte more.
@@ -35,16 +47,17 @@ pub fn byte(out: &mut [u8], pen: Pen, b: u8) -> Pen
     requires { Writable pen.at (length out.old) }
     ensures { result.at ≤ length out.old }
 {
+    let to = pen.to;
     let at = pen.at;
     if at < out.len() {
         out[at] = b;
         let ok = pen.ok;
-        return Pen { at: at + 1, ok };
+        return Pen { to, at: at + 1, ok };
     }
     let empty = flush(&out[..], pen);
     out[0] = b;
     let ok = empty.ok;
-    Pen { at: 1, ok }
+    Pen { to, at: 1, ok }
 }
 
 // Some bytes more.

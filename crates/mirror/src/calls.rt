@@ -9,6 +9,8 @@ use crate::site::{Done, Site, failed, run_call, site_call};
 use journal::line::Line;
 use journal::output::Pen;
 use journal::{calls, fields};
+use std::process::Process;
+use std::rt::Files;
 
 // Whether a call is on the image as it is, the calls that lay out a site left out.
 fn on_image(call: usize) -> bool {
@@ -28,6 +30,8 @@ fn is_file(call: usize) -> bool {
 
 // One call, its fields read.
 pub fn act(
+    rt: &impl Files,
+    process: Process,
     line: Line,
     site: Site,
     bytes: &[u8],
@@ -48,7 +52,7 @@ pub fn act(
     let n = line.bytes;
     let field = &bytes[..n];
     if is_file(call) {
-        return file_call(call, site, field, words, pool, out, pen);
+        return file_call(rt, process, call, site, field, words, pool, out, pen);
     }
     let from = line.list;
     let to = line.words;

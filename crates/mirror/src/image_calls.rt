@@ -8,6 +8,8 @@ use crate::site::{Done, Site, failed, finished, tell_size};
 use files::{Loaded, Saved};
 use journal::output::Pen;
 use journal::{answer, calls, fields, output};
+use std::process::Process;
+use std::rt::Files;
 
 // The place of the next word other than 0, or the image's length.
 fn next_nonzero(image: &[u64], from: usize) -> usize
@@ -116,6 +118,7 @@ fn refused(site: Site, out: &mut [u8], pen: Pen) -> Done
 
 // load PATH. The words go to `room` first: where the file can't be read the image stays.
 fn load(
+    rt: &impl Files,
     site: Site,
     path: &[u8],
     room: &mut [u64],
@@ -126,7 +129,7 @@ fn load(
     requires { Ready site.size pen.at (length pool.old) (length out.old) × (length room.old ≤ length pool.old) }
     ensures { Kept result.site.size result.pen.at (length pool.old) (length out.old) }
 {
-    match files::load(path, &mut room[..]) {
+    match files::load(rt, path, &mut room[..]) {
         Loaded::Words(n) => take_image(site, &room[..n], pool, out, pen),
         Loaded::NotWhole => refused(site, out, pen),
         Loaded::CannotRead => failed(site, pen, 1, fields::NO_FILE),
@@ -134,7 +137,15 @@ fn load(
 }
 
 // save PATH
-fn save(site: Site, path: &[u8], image: &[u64], out: &mut [u8], pen: Pen) -> Done
+fn save(
+    rt: &impl Files,
+    process: Process,
+    site: Site,
+    path: &[u8],
+    image: &[u64],
+    out: &mut [u8],
+    pen: Pen,
+) -> Done
     requires { Writable pen.at (length out.old) }
     ensures { (result.site.size ≤ site.size) × (result.pen.at ≤ length out.old) }
 {
@@ -142,7 +153,7 @@ fn save(site: Site, path: &[u8], image: &[u64], out: &mut [u8], pen: Pen) -> Don
     if !right {
         return refused(site, out, pen);
     }
-    match files::save(path, image) {
+    match files::save(rt, process, path, image) {
         Saved::Done => tell_size(site, out, pen),
         Saved::CannotWrite => failed(site, pen, 1, fields::CANNOT_WRITE),
         Saved::FolderUnwritten => failed(site, pen, 1, fields::FOLDER_UNWRITTEN),
@@ -151,6 +162,8 @@ fn save(site: Site, path: &[u8], image: &[u64], out: &mut [u8], pen: Pen) -> Don
 
 // Calls on files.
 pub fn file_call(
+    rt: &impl Files,
+    process: Process,
     call: usize,
     site: Site,
     path: &[u8],
@@ -163,8 +176,8 @@ pub fn file_call(
     ensures { Kept result.site.size result.pen.at (length pool.old) (length out.old) }
 {
     if call == calls::LOAD {
-        return load(site, path, room, pool, out, pen);
+        return load(rt, site, path, room, pool, out, pen);
     }
     let size = site.size;
-    save(site, path, &pool[..size], out, pen)
+    save(rt, process, site, path, &pool[..size], out, pen)
 }

@@ -17,9 +17,12 @@ use journal::line::Line;
 use journal::output::Pen;
 use journal::{answer, fields, input, line, output};
 use site::{Done, Site};
+use std::io::{IsTerminal, Stdin, Stdout};
+use std::process::Process;
+use std::rt::Files;
 
 // What a run carries from line to line: unread input, the line's number, the site, the pen, and whether it goes on.
-#[derive(Drop)]
+#[derive(Clone, Copy)]
 pub struct State {
     pub at: usize,
     pub end: usize,
@@ -30,11 +33,11 @@ pub struct State {
 }
 
 impl State {
-    fn first() -> Self
+    fn first(to: Stdout) -> Self
         ensures { (result.at ≡ 0) × (result.end ≡ 0) × (result.site.size ≤ 0) × (result.pen.at ≤ 0) }
     {
         let site = Site::first();
-        let pen = Pen::new();
+        let pen = Pen::new(to);
         Self {
             at: 0,
             end: 0,
@@ -83,6 +86,7 @@ struct Rest {
 
 // Behind a line that was read up to `at` and ended by `stop`. The rest of a wrong one is passed over where the run goes on.
 fn behind_line(
+    stdin: Stdin,
     input: &mut [u8],
     at: usize,
     end: usize,
@@ -108,7 +112,7 @@ fn behind_line(
             going: false,
         };
     }
-    let over = input::pass_over(input, at, end, input::LINE);
+    let over = input::pass_over(stdin, input, at, end, input::LINE);
     Rest {
         at: over.at,
         end: over.end,
@@ -118,6 +122,8 @@ fn behind_line(
 
 // Makes the call of a line, and answers; or says what is wrong with it.
 fn finish(
+    rt: &impl Files,
+    process: Process,
     read: Line,
     number: u64,
     site: Site,
@@ -130,7 +136,17 @@ fn finish(
     requires { Ready site.size pen.at (length pool.old) (length out.old) × Held read.bytes read.list read.words (length bytes.now) (length words.old) (length pool.old) }
     ensures { Kept result.site.size result.pen.at (length pool.old) (length out.old) }
 {
-    let done = calls::act(read, site, bytes, words, pool, &mut out[..], pen);
+    let done = calls::act(
+        rt,
+        process,
+        read,
+        site,
+        bytes,
+        words,
+        pool,
+        &mut out[..],
+        pen,
+    );
     let what = done.what;
     if what == 0 {
         return done;
@@ -154,6 +170,9 @@ struct Answered {
 
 // Reads a line that is a call, its name at `from`, and answers it.
 fn answer_line(
+    rt: &impl Files,
+    process: Process,
+    stdin: Stdin,
     input: &mut [u8],
     from: usize,
     upto: usize,
@@ -169,8 +188,10 @@ fn answer_line(
     let number = state.line;
     let site = state.site;
     let pen = state.pen;
-    let read = line::read_line(input, from, upto, &mut bytes[..], &mut words[..]);
-    let done = finish(read, number, site, bytes, words, pool, out, pen);
+    let read = line::read_line(stdin, input, from, upto, &mut bytes[..], &mut words[..]);
+    let done = finish(
+        rt, process, read, number, site, bytes, words, pool, out, pen,
+    );
     let next = done.site;
     let told = done.pen;
     Answered {
@@ -186,6 +207,9 @@ fn answer_line(
 
 // A line that is a call, its name at `from`.
 fn call_line(
+    rt: &impl Files,
+    process: Process,
+    stdin: Stdin,
     input: &mut [u8],
     from: usize,
     upto: usize,
@@ -199,11 +223,23 @@ fn call_line(
     requires { Roomy (length words.old) (length pool.old) (length out.old) × Carried from upto state.site.size state.pen.at (length input.old) (length pool.old) (length out.old) }
     ensures { Carried result.at result.end result.site.size result.pen.at (length input.old) (length pool.old) (length out.old) }
 {
-    let line = answer_line(&mut input[..], from, upto, bytes, words, pool, out, state);
+    let line = answer_line(
+        rt,
+        process,
+        stdin,
+        &mut input[..],
+        from,
+        upto,
+        bytes,
+        words,
+        pool,
+        out,
+        state,
+    );
     let site = line.site;
     let pen = line.pen;
     let rest = behind_line(
-        input, line.at, line.end, line.call, line.stop, line.what, terminal,
+        stdin, input, line.at, line.end, line.call, line.stop, line.what, terminal,
     );
     State {
         at: rest.at,
@@ -264,13 +300,13 @@ fn new_line(input: &[u8], at: usize, end: usize, out: &[u8], state: State) -> St
 }
 
 // Passes over a comment, up to the line's end.
-fn comment(input: &mut [u8], at: usize, end: usize, state: State) -> State
+fn comment(stdin: Stdin, input: &mut [u8], at: usize, end: usize, state: State) -> State
     requires { Unread at end (length input.old) }
     ensures { Unread result.at result.end (length input.old) × (result.site.size ≤ state.site.size) × (result.pen.at ≤ state.pen.at) }
 {
     let site = state.site;
     let pen = state.pen;
-    let over = input::pass_over(input, at, end, input::LINE);
+    let over = input::pass_over(stdin, input, at, end, input::LINE);
     State {
         at: over.at,
         end: over.end,
@@ -283,6 +319,9 @@ fn comment(input: &mut [u8], at: usize, end: usize, state: State) -> State
 
 // A call, a comment, or a line's end.
 fn step(
+    rt: &impl Files,
+    process: Process,
+    stdin: Stdin,
     input: &mut [u8],
     bytes: &mut [u8],
     words: &mut [u64],
@@ -294,7 +333,7 @@ fn step(
     requires { Roomy (length words.old) (length pool.old) (length out.old) × Carried state.at state.end state.site.size state.pen.at (length input.old) (length pool.old) (length out.old) }
     ensures { Carried result.at result.end result.site.size result.pen.at (length input.old) (length pool.old) (length out.old) }
 {
-    let next = input::next_byte(&mut input[..], state.at, state.end);
+    let next = input::next_byte(stdin, &mut input[..], state.at, state.end);
     let at = next.at;
     let end = next.end;
     let byte = next.byte;
@@ -305,13 +344,19 @@ fn step(
         return new_line(input, at, end, out, state);
     }
     if byte == 35 {
-        return comment(input, at, end, state);
+        return comment(stdin, input, at, end, state);
     }
-    call_line(input, at, end, bytes, words, pool, out, state, terminal)
+    call_line(
+        rt, process, stdin, input, at, end, bytes, words, pool, out, state, terminal,
+    )
 }
 
 // Answers line after line until the input ends, `quit` or a wrong line ends it, or the answers can't be written.
 fn run(
+    rt: &impl Files,
+    process: Process,
+    stdin: Stdin,
+    stdout: Stdout,
     input: &mut [u8],
     bytes: &mut [u8],
     words: &mut [u64],
@@ -322,11 +367,14 @@ fn run(
     requires { Roomy (length words.old) (length pool.old) (length out.old) }
     ensures { result.at ≤ length out.old }
 {
-    let mut state = State::first();
+    let mut state = State::first(stdout);
     let mut turns = u64::MAX;
     while 0 < turns {
         turns -= 1;
         state = step(
+            rt,
+            process,
+            stdin,
             &mut input[..],
             &mut bytes[..],
             &mut words[..],
@@ -370,21 +418,30 @@ fn image_room() -> [u64; 174552]
     [0; 174552]
 }
 
-fn main() {
+fn main(rt: HostRuntime) {
     let mut input = input_room();
     let mut bytes = message_room();
     let mut words = list_room();
     let mut pool = image_room();
     let mut out = io::large_buffer();
-    let terminal = libc::isatty(libc::STDIN_FILENO) == 1;
+    let stdin = rt.stdin();
+    let terminal = stdin.is_terminal();
     let pen = run(
-        &mut input, &mut bytes, &mut words, &mut pool, &mut out, terminal,
+        &rt,
+        rt.process(),
+        stdin,
+        rt.stdout(),
+        &mut input,
+        &mut bytes,
+        &mut words,
+        &mut pool,
+        &mut out,
+        terminal,
     );
     let last = output::flush(&out, pen);
     if !last.ok {
-        io::write_all(
-            libc::STDERR_FILENO,
-            b"mirror: standard output can't be written\n",
-        );
+        let _ = rt
+            .stderr()
+            .write_all(b"mirror: standard output can't be written\n");
     }
 }

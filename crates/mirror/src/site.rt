@@ -8,7 +8,7 @@ use journal::output::Pen;
 use journal::{answer, calls};
 
 // P and E, the image's length in the pool's buffer, and the settings.
-#[derive(Drop)]
+#[derive(Clone, Copy)]
 pub struct Site {
     pub p: usize,
     pub e: usize,
