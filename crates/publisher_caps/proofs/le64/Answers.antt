@@ -1,0 +1,5 @@
+use Rattle.publisher_caps.proofs.KeyLaws.{little_read}
+use Rattle.publisher_caps.proofs.le64.Goals as goal
+
+pub returns : goal.returns
+returns c = little_read _ _ _ _ (λ i. (c.shared_slice_known-1.given i).fits) c.be64.ensures c.swap.ensures

@@ -1,0 +1,48 @@
+use mathlib.Core.Path.{◌≡◌}
+use Prim.Native.Nat.{ℕ, ◌+◌, ◌-◌, ◌*◌, ◌/◌, ◌%◌, ◌^◌, ◌≤◌, ◌<◌}
+use native.Mathlib.Nat.{div-add-mod', mod-lt, div-lt_iff_lt-mul, mul-le-mul}
+use native.Mathlib.Omega.{arith}
+use Rattle.types.specs.MulDiv.{Division}
+use Rattle.types.proofs.MulDivLaws.{estimate}
+use Rattle.types.proofs.mul_div.digit_long.Goals as goal
+
+-- the values that the code names
+module _ (h x d : ℕ) where
+  abbrev e : ℕ
+  e = d / 2 ^ 32 + 1
+
+  abbrev q : ℕ
+  q = h / e
+
+  abbrev s : ℕ
+  s = h % e * 2 ^ 32 + x
+
+  abbrev t : ℕ
+  t = q * (2 ^ 32 - d % 2 ^ 32)
+
+module _ (h x d : ℕ) (hh : h < d) where
+  left_lt : h % e h x d < e h x d
+  left_lt = mod-lt h (omega arith)
+
+  q_lt : q h x d < 2 ^ 32
+  q_lt = (div-lt_iff_lt-mul {k = e h x d} {x = h} {y = 2 ^ 32} (omega arith)).1 (omega arith)
+
+  t_le : t h x d ≤ (2 ^ 32 - 1) * 2 ^ 32
+  t_le = mul-le-mul {n₁ = q h x d} {m₁ = 2 ^ 32 - d % 2 ^ 32} {n₂ = 2 ^ 32 - 1} {m₂ = 2 ^ 32} (omega (arith, q_lt)) (omega arith)
+
+  sum_is : q h x d * d + (s h x d + t h x d) ≡ h * 2 ^ 32 + x
+  sum_is = estimate h x d (q h x d) (h % e h x d) (2 ^ 32 - d % 2 ^ 32) (div-add-mod' h (e h x d)) (omega arith)
+
+-- two quotients and the last one, over what is left each time
+gather : (n d q s t tq tr lq lr : ℕ) → q * d + (s + t) ≡ n → tq * d + tr ≡ t → Division (s + tr) d lq lr → Division n d (q + tq + lq) lr
+gather n d q s t tq tr lq lr e₁ e₂ l = record { whole = omega arith; small = l.small }
+
+whole : (h x d lq lr : ℕ) → h < d → Division (s h x d + t h x d % d) d lq lr → Division (h * 2 ^ 32 + x) d (q h x d + t h x d / d + lq) lr
+whole h x d lq lr hh l =
+    gather (h * 2 ^ 32 + x) d (q h x d) (s h x d) (t h x d) (t h x d / d) (t h x d % d) lq lr (sum_is h x d hh) (div-add-mod' (t h x d) d) l
+
+pub returns : goal.returns
+returns c =
+    let a = c.args in
+    let l = c.sum_over-last in
+    whole a.h a.x a.d l.result.quotient l.result.remainder c.requires.0 l.ensures
