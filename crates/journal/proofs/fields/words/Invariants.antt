@@ -1,10 +1,10 @@
 use Rattle.std.proofs.Common.{◌≡◌, ◌-◌, ◌≤◌, length}
 use Rattle.journal.proofs.fields.words.Given as goal
 
--- PARAMS DIFFER ['input₀', 'start', 'upto', 'out₀', 'at₀', 'end₀', 'count₀', 'input', 'out', 'at', 'end', 'count'] ['l.stdin', 'l.initial.input', 'l.start', 'l.upto', 'l.initial.out', 'l.initial.at', 'l.initial.end', 'l.initial.count', 'l.input', 'l.out', 'l.at', 'l.end', 'l.count']
 abbrev pub invariant-loop-count : goal.invariant-loop-count
-invariant-loop-count l = (length l.initial.count ≡ length l.stdin) × (length l.input ≡ length l.upto) × (l.out ≤ l.at) × (l.at ≤ length l.stdin) × (l.end ≤ length l.upto)
+invariant-loop-count l =
+    (length l.input ≡ length l.initial.input) × (length l.out ≡ length l.initial.out) × (l.at ≤ l.end)
+    × (l.end ≤ length l.initial.input) × (l.count ≤ length l.initial.out)
 
--- PARAMS DIFFER ['input₀', 'start', 'upto', 'out₀', 'at₀', 'end₀', 'count₀', 'input', 'out', 'at', 'end', 'count'] ['l.stdin', 'l.initial.input', 'l.start', 'l.upto', 'l.initial.out', 'l.initial.at', 'l.initial.end', 'l.initial.count', 'l.input', 'l.out', 'l.at', 'l.end', 'l.count']
 abbrev pub decreases-loop-count : goal.decreases-loop-count
-decreases-loop-count l = length l.upto - l.end
+decreases-loop-count l = length l.initial.out - l.count

@@ -6,7 +6,7 @@ pub returns-then-what-eq-TOO_MANY : goal.returns-then-what-eq-TOO_MANY
 returns-then-what-eq-TOO_MANY c = field_none _ _ (omega arith)
 
 pub returns-then-what-eq-TOO_FEW : goal.returns-then-what-eq-TOO_FEW
-returns-then-what-eq-TOO_FEW c = field_next _ _ (λ e. omega arith) _ (omega arith) c.wrapping_add_usize.ensures
+returns-then-what-eq-TOO_FEW c = field_next _ _ (λ e. omega arith) _ (omega arith) c.wrapping_add_usize.ensures.value
 
 pub returns : goal.returns
 returns c = field_last _ _ (λ e. omega arith) (λ e. omega arith)
