@@ -10,7 +10,8 @@ use lib.Dec.{ltb}
 use lib.ListN.{length, get_or, set, length-set}
 use lib.Seq.{get_or-set_same, get_or-set_other}
 use borrow.Author.Tests.{lt-ltb, le-ltb, ltb-true, ltb-false}
-use Rattle.types.specs.Base.{word, if◌then◌else◌, all_below}
+use Rattle.std.specs.Prelude.{if◌then◌else◌}
+use Rattle.types.specs.Base.{word, all_below}
 use Rattle.types.proofs.Below.{all_none, all_more, all_not}
 use Rattle.event_walk.specs.declared.EventAmounts.{EventAmounts}
 use Rattle.event_walk.specs.Span.{units_in}
