@@ -1,4 +1,4 @@
-use Rattle.std.proofs.Common.{◌+◌, ◌-◌, ◌*◌, ◌<◌, ◌≤◌, length, get_or, refl, ◌∙◌, arith}
+use Rattle.std.proofs.Common.{◌+◌, ◌*◌, ◌<◌, ◌≤◌, length, get_or, refl, ◌∙◌, arith}
 use Rattle.types.specs.Wide.{wide_of}
 use Rattle.types.proofs.Below.{all_not}
 use Rattle.image.specs.Layout.{read}
