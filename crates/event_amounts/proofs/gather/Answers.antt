@@ -1,4 +1,3 @@
-use Prim.Native.Nat.{◌-◌}
 use Rattle.image.specs.Layout.{read}
 use Rattle.event_amounts.proofs.GatherLaws.{gather_end}
 use Rattle.event_amounts.proofs.TurnLaws.{Round, walked_start, round_walked}

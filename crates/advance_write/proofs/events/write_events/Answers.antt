@@ -1,4 +1,3 @@
-use Prim.Native.Nat.{◌-◌}
 use Rattle.advance_write.proofs.RingLaws.{events_none, events_turn, events_done}
 use borrow.Author.Rules.{rules}
 use native.Mathlib.Omega.{arith}
