@@ -120,6 +120,6 @@ words_back l back zero h small = refl
 words_back l back (suc n) h small =
     let rest = eight (get_or l n 0) ++ back in
     let front = bytes_of l n in
-    let e : (front ++ eight (get_or l n 0)) ++ back ≡ front ++ rest = append_assoc front (eight (get_or l n 0)) back in
+    let e : bytes_of l (suc n) ++ back ≡ front ++ rest = append_assoc front (eight (get_or l n 0)) back in
     let w : word_at (front ++ rest) (n * 8) ≡ get_or l n 0 = rw (length_bytes l n) at (word_back front back (get_or l n 0) (small n)) in
-    rw (e, words_back l rest n (omega arith) small, w) (sym (take-suc l n 0 (omega arith)))
+    ap (λ (s : List ℕ). words_of s (suc n)) e ∙ rw (words_back l rest n (omega arith) small, w) (sym (take-suc l n 0 (omega arith)))

@@ -1,0 +1,5 @@
+use Rattle.files.proofs.WordsLaws.{stored}
+use Rattle.files.proofs.words.put_word.Goals as goal
+
+pub returns : goal.returns
+returns c = stored c.args.out.now c.args.word c.requires
