@@ -1,4 +1,3 @@
-use Prim.Native.Nat.{◌-◌}
 use mathlib.Core.Path.{refl}
 use Rattle.files.proofs.WordsLaws.{bytes_none, bytes_more}
 use borrow.Author.Rules.{rules}
