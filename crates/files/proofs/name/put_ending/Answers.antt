@@ -1,3 +1,4 @@
+-- `files::name::put_ending` meets its contract. Assumes nothing.
 use Rattle.files.proofs.NameLaws.{put_ending}
 use native.Mathlib.Omega.{arith}
 use Rattle.files.proofs.name.put_ending.Goals as goal

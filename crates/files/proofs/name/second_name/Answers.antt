@@ -1,3 +1,4 @@
+-- `files::name::second_name` meets its contract. Assumes nothing.
 use mathlib.Core.Path.{ap}
 use lib.ListN.{length}
 use Rattle.files.proofs.NameLaws.{name_long, name_made}

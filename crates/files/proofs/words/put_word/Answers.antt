@@ -1,3 +1,4 @@
+-- `files::words::put_word` meets its contract. Assumes nothing.
 use Rattle.files.proofs.WordsLaws.{stored}
 use Rattle.files.proofs.words.put_word.Goals as goal
 
