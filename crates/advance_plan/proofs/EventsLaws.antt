@@ -3,7 +3,7 @@
 use Rattle.std.proofs.Common.{◌≡◌, ℕ, zero, suc, ◌+◌, ◌-◌, ◌*◌, ◌%◌, ◌<◌, ◌≤◌, Bool, true, false, eqb, ltb, ◌⊎◌, List, sym, refl, ap, ◌∙◌, ap₂, inl, inr, ⊎_elim, mod-lt, mod-eq_of_lt, arith, le-ltb, eq-eqb, ne_eqb}
 use native.Mathlib.Decide.{ℕ_discrete}
 use lib.Arith.{digits_mod}
-use Rattle.types.specs.Base.{if◌then◌else◌}
+use Rattle.std.specs.Prelude.{if◌then◌else◌}
 use Rattle.types.proofs.Below.{and_right}
 use Rattle.image.specs.Layout.{Head, last_updated_epoch, num_events, Seat, event_epoch, event_y, extra_space, Share, Field, head, seat, slot, share, Words, InRange}
 use Rattle.image.specs.Seats.{fresh_words, seats_of}

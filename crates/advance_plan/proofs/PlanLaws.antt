@@ -1,7 +1,8 @@
 -- The parts of a plan, one law for each way out of the code. Assumes nothing.
 use Rattle.std.proofs.Common.{◌≡◌, ℕ, zero, suc, ◌+◌, ◌-◌, ◌*◌, ◌/◌, ◌<◌, ◌≤◌, Bool, true, false, not, eqb, ltb, leb, List, get_or, sym, refl, ap, ◌∙◌, subst, ap₂, arith, ltb-false, ltb-true, eq-eqb, ne_eqb, le-leb, leb-false}
 use borrow.Author.Tests.{lt-leb}
-use Rattle.types.specs.Base.{word, half, if◌then◌else◌, Outcome, refused, accepted, map_outcome, sum_below, all_below}
+use Rattle.std.specs.Prelude.{if◌then◌else◌}
+use Rattle.types.specs.Base.{word, half, Outcome, refused, accepted, map_outcome, sum_below, all_below}
 use Rattle.types.specs.Refusals.{unverified_publisher_caps, pool_data_already_up_to_date, outdated_publisher_caps, does_not_fit}
 use Rattle.types.specs.Wide.{wide_of, fit_of}
 use Rattle.types.specs.declared.bool_array.BoolArray.{BoolArray}

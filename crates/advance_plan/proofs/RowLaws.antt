@@ -1,7 +1,8 @@
 -- Matching the rows with the seats, seat by seat, and the counts of the rows. Assumes nothing.
 use Rattle.std.proofs.Common.{◌≡◌, ℕ, zero, suc, ◌+◌, ◌-◌, ◌<◌, ◌≤◌, Bool, true, false, ◌||◌, eqb, ltb, List, length, set, replicate, sym, refl, ap, ◌∙◌, subst, ap₂, add-zero, add-suc, add-one, arith, length-set, eq-eqb, ne_eqb}
 use native.Mathlib.Decide.{ℕ_discrete}
-use Rattle.types.specs.Base.{if◌then◌else◌, any_below, count_below, to_nat}
+use Rattle.std.specs.Prelude.{if◌then◌else◌}
+use Rattle.types.specs.Base.{any_below, count_below, to_nat}
 use Rattle.types.specs.BoolArray.{marked, with_mark, marked_rows}
 use Rattle.types.proofs.Below.{count_more, count_same}
 use Rattle.types.proofs.BoolArrayLaws.{mark_same, mark_other, mark_none}

@@ -1,7 +1,8 @@
 -- What a seat comes to, one law for each way out of the code, and the sums and lists, seat by seat. Assumes nothing.
 use Rattle.std.proofs.Common.{◌≡◌, ℕ, ◌+◌, ◌*◌, ◌<◌, ◌≤◌, Bool, true, false, List, length, get_or, set, sym, refl, ap, ◌∙◌, subst, arith, length-set, get_or-set_other, get_or-set_same}
 use native.Mathlib.Decide.{ℕ_discrete}
-use Rattle.types.specs.Base.{if◌then◌else◌, accepted}
+use Rattle.std.specs.Prelude.{if◌then◌else◌}
+use Rattle.types.specs.Base.{accepted}
 use Rattle.types.proofs.Below.{sum_none, sum_more, all_none, all_more}
 use Rattle.event.specs.declared.eligible.EligibleDelegationData.{EligibleDelegationData}
 use Rattle.event.specs.Eligible.{eligible_of}

@@ -1,6 +1,6 @@
 -- What is worked out before the first write, as the code answers it. Assumes nothing.
-use Rattle.std.specs.Prelude.{◌≡◌, ℕ, ◌+◌, ◌-◌, ◌*◌, ◌/◌, ◌<◌, ◌≤◌, Bool, true, false, not, List, ◌==◌, nat_le, slice_index}
-use Rattle.types.specs.Base.{word, half, if◌then◌else◌, Outcome, refused, accepted, all_below}
+use Rattle.std.specs.Prelude.{◌≡◌, ℕ, ◌+◌, ◌-◌, ◌*◌, ◌/◌, ◌<◌, ◌≤◌, Bool, true, false, not, List, ◌==◌, nat_le, slice_index, if◌then◌else◌}
+use Rattle.types.specs.Base.{word, half, Outcome, refused, accepted, all_below}
 use Rattle.types.specs.Refusals.{unverified_publisher_caps, pool_data_already_up_to_date, outdated_publisher_caps, does_not_fit}
 use Rattle.types.specs.BoolArray.{marked}
 use Rattle.types.specs.Wide.{wide_of, fit_of}

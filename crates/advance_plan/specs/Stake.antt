@@ -1,6 +1,6 @@
 -- Eligible amounts and ratios as the code holds them: of one seat, and of all seats with their lists. Assumes nothing.
-use Rattle.std.specs.Prelude.{◌≡◌, ℕ, ◌+◌, ◌*◌, ◌<◌, ◌≤◌, true, false, List, length, slice_index, slice_set}
-use Rattle.types.specs.Base.{if◌then◌else◌, sum_below, all_below}
+use Rattle.std.specs.Prelude.{◌≡◌, ℕ, ◌+◌, ◌*◌, ◌<◌, ◌≤◌, true, false, List, length, slice_index, slice_set, if◌then◌else◌}
+use Rattle.types.specs.Base.{sum_below, all_below}
 use Rattle.types.specs.Wide.{wide_of}
 use Rattle.image.specs.Layout.{self, other, delegation_fees, seat, Words}
 use Rattle.advance_plan.specs.declared.stake.SeatEligible.{SeatEligible}

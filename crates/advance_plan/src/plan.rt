@@ -1,6 +1,5 @@
 // All that is worked out before the first write.
-ghost use Rattle.std.specs.Prelude.{◌≡◌, ◌+◌, ◌-◌, ◌*◌, ◌^◌, ◌<◌, ◌≤◌, length};
-ghost use Rattle.types.specs.Base.{if◌then◌else◌};
+ghost use Rattle.std.specs.Prelude.{◌≡◌, ◌+◌, ◌-◌, ◌*◌, ◌^◌, ◌<◌, ◌≤◌, length, if◌then◌else◌};
 ghost use Rattle.types.specs.Wide.{wide_of, fit_of};
 ghost use Rattle.event.specs.Adjust.{adjusted_is};
 ghost use Rattle.image.specs.Layout.{num_events, claimable_rewards, head, read};

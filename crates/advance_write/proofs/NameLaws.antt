@@ -10,7 +10,7 @@ use native.Mathlib.Omega.{arith}
 use lib.Dec.{eqb, ltb}
 use lib.ListN.{length, get_or}
 use borrow.Author.Tests.{eq-eqb, ne_eqb, lt-ltb, le-ltb}
-use Rattle.types.specs.Base.{if◌then◌else◌}
+use Rattle.std.specs.Prelude.{if◌then◌else◌}
 use Rattle.image.specs.Layout.{self, other, last_updated_epoch, claimable_rewards, num_events, publishers, total_delegation, delta_delegation, publisher_stake_accounts, num_slash_events, delegation_fees, event_epoch, event_y, extra_space, reward_ratio, event_fee, Field, head, seat, slot, share, Words, event_size, event_at, num_events_at, addr, InRange, read}
 use Rattle.image.specs.Lists.{imap}
 use Rattle.image.proofs.PlaceLaws.{slot_fits_law}

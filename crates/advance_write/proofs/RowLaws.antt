@@ -8,7 +8,8 @@ use native.Mathlib.Omega.{arith}
 use lib.Dec.{eqb}
 use lib.ListN.{length}
 use borrow.Author.Tests.{ne_eqb}
-use Rattle.types.specs.Base.{if◌then◌else◌, to_nat, count_below}
+use Rattle.std.specs.Prelude.{if◌then◌else◌}
+use Rattle.types.specs.Base.{to_nat, count_below}
 use Rattle.publisher_caps.specs.declared.PublisherCap.{PublisherCap}
 use Rattle.publisher_caps.specs.Message.{key_word, row_of}
 use Rattle.image.specs.Layout.{publishers, total_delegation, delta_delegation, publisher_stake_accounts, num_slash_events, delegation_fees, Field, head, seat, slot, share, Words, size, InRange, read, image}

@@ -8,7 +8,8 @@ use native.Mathlib.Decide.{ℕ_discrete}
 use native.Mathlib.Omega.{arith}
 use lib.Dec.{eqb, ltb}
 use borrow.Author.Tests.{eq-eqb, ne_eqb, lt-ltb, le-ltb, ltb-true, ltb-false}
-use Rattle.types.specs.Base.{if◌then◌else◌, accepted}
+use Rattle.std.specs.Prelude.{if◌then◌else◌}
+use Rattle.types.specs.Base.{accepted}
 use Rattle.types.proofs.Below.{and_both}
 use Rattle.delegation.specs.declared.DelegationState.{DelegationState}
 use Rattle.delegation.specs.declared.Changed.{Changed}

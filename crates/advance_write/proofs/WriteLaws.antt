@@ -6,7 +6,8 @@ use Prim.Native.Nat.{ℕ, zero, suc, ◌+◌, ◌-◌, ◌≤◌, ◌<◌}
 use native.Mathlib.Omega.{arith}
 use lib.Dec.{eqb, ltb}
 use Rattle.types.specs.declared.Ratio.{Ratio}
-use Rattle.types.specs.Base.{word, if◌then◌else◌, all_below, count_below}
+use Rattle.std.specs.Prelude.{if◌then◌else◌}
+use Rattle.types.specs.Base.{word, all_below, count_below}
 use Rattle.types.specs.BoolArray.{marked}
 use Rattle.types.proofs.Below.{all_same, count_same}
 use Rattle.publisher_caps.specs.Message.{key_word}

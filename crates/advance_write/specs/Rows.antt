@@ -1,6 +1,5 @@
 -- The words of an image in which unmatched rows have taken seats. Assumes nothing.
-use Rattle.std.specs.Prelude.{Bool, not, ◌&&◌, List, ℕ, eqb}
-use Rattle.types.specs.Base.{if◌then◌else◌}
+use Rattle.std.specs.Prelude.{Bool, not, ◌&&◌, List, ℕ, eqb, if◌then◌else◌}
 use Rattle.publisher_caps.specs.Message.{key_word}
 use Rattle.image.specs.Layout.{publishers, total_delegation, delta_delegation, publisher_stake_accounts, num_slash_events, delegation_fees, head, seat, slot, share, Words}
 use Rattle.advance_plan.specs.Advance.{key_after}

@@ -1,6 +1,5 @@
 // The seats that unmatched rows take.
-ghost use Rattle.std.specs.Prelude.{◌≡◌, ◌+◌, ◌≤◌, ◌<◌};
-ghost use Rattle.types.specs.Base.{if◌then◌else◌};
+ghost use Rattle.std.specs.Prelude.{◌≡◌, ◌+◌, ◌≤◌, ◌<◌, if◌then◌else◌};
 ghost use Rattle.types.specs.BoolArray.{marked};
 ghost use Rattle.publisher_caps.specs.Message.{rows_of, Whole};
 ghost use Rattle.image.specs.Layout.{read, image};

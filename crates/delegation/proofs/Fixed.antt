@@ -1,6 +1,7 @@
 -- The views of a side's answers fix them. Assumes nothing.
 use Rattle.std.proofs.Common.{◌≡◌, eqb, refl}
-use Rattle.types.specs.Base.{if◌then◌else◌, Outcome, refused, accepted}
+use Rattle.std.specs.Prelude.{if◌then◌else◌}
+use Rattle.types.specs.Base.{Outcome, refused, accepted}
 use Rattle.types.specs.Refusals.{does_not_fit}
 use Rattle.types.proofs.Fixed.{by_return}
 use Rattle.delegation.specs.declared.DelegationState.{DelegationState}

@@ -1,6 +1,6 @@
 -- One side's total and change (items 4 and 9 of document 01), on numbers. The change is the word of the image. Assumes nothing.
-use Rattle.std.specs.Prelude.{ℕ, ◌+◌, ◌-◌, ◌%◌, Bool, ◌&&◌, ltb, nat_le, nat_lt}
-use Rattle.types.specs.Base.{word, half, if◌then◌else◌, Outcome, refused, accepted, map_outcome}
+use Rattle.std.specs.Prelude.{ℕ, ◌+◌, ◌-◌, ◌%◌, Bool, ◌&&◌, ltb, nat_le, nat_lt, if◌then◌else◌}
+use Rattle.types.specs.Base.{word, half, Outcome, refused, accepted, map_outcome}
 use Rattle.types.specs.Refusals.{does_not_fit, unexpected_position_state}
 use Rattle.positions.specs.declared.position.PositionState.{PositionState}
 use Rattle.positions.specs.declared.position.PositionState.TheVariants.{LOCKING, LOCKED, PREUNLOCKING, UNLOCKING, UNLOCKED}

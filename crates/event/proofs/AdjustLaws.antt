@@ -7,7 +7,8 @@ use native.Mathlib.Nat.{le_refl, le_of_lt, mul-le-mul_left, mul-le-mul_right, di
 use native.Mathlib.Omega.{arith}
 use lib.Dec.{leb, ltb}
 use borrow.Author.Tests.{le-leb, lt-leb, lt-ltb, le-ltb, leb-true, leb-false, ltb-true, ltb-false}
-use Rattle.types.specs.Base.{M, word, if◌then◌else◌, Outcome, refused, accepted}
+use Rattle.std.specs.Prelude.{if◌then◌else◌}
+use Rattle.types.specs.Base.{M, word, Outcome, refused, accepted}
 use Rattle.types.specs.Refusals.{does_not_fit, claimable_over_custody}
 use Rattle.event.specs.Adjust.{Adjustment, rewards_of, lowered_by, adjust_of}
 

@@ -7,7 +7,8 @@ use native.Mathlib.Nat.{add-zero, zero-mul, mul-zero, zero-div, mul-le-mul_right
 use native.Mathlib.Omega.{arith}
 use lib.Dec.{eqb, leb, ltb}
 use borrow.Author.Tests.{le-leb, lt-leb, lt-ltb, le-ltb, eq-eqb, ne_eqb, leb-true, leb-false, ltb-true, ltb-false, eqb-true, eqb-false}
-use Rattle.types.specs.Base.{M, word, if◌then◌else◌, Outcome, refused, accepted}
+use Rattle.std.specs.Prelude.{if◌then◌else◌}
+use Rattle.types.specs.Base.{M, word, Outcome, refused, accepted}
 use Rattle.types.specs.Refusals.{does_not_fit}
 use Rattle.event.specs.declared.event.Event.{Event}
 use Rattle.event.specs.Event.{Parts, rate_of, total_of, shared, reward_of, event_reward}

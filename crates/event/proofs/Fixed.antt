@@ -1,7 +1,8 @@
 -- The views of an adjustment's and a reward's answers fix them. Assumes nothing.
 use mathlib.Core.Path.{◌≡◌, refl}
 use lib.Dec.{eqb}
-use Rattle.types.specs.Base.{if◌then◌else◌, Outcome, refused, accepted}
+use Rattle.std.specs.Prelude.{if◌then◌else◌}
+use Rattle.types.specs.Base.{Outcome, refused, accepted}
 use Rattle.types.specs.Refusals.{does_not_fit}
 use Rattle.types.proofs.Fixed.{by_return}
 use Rattle.event.specs.declared.adjust.Adjusted.{Adjusted}

@@ -1,6 +1,6 @@
 -- Item 5 of document 01: the adjustment of y. Assumes nothing.
-use Rattle.std.specs.Prelude.{ℕ, ◌+◌, ◌-◌, ◌*◌, ◌/◌, leb, ltb}
-use Rattle.types.specs.Base.{M, word, if◌then◌else◌, Outcome, refused, accepted}
+use Rattle.std.specs.Prelude.{ℕ, ◌+◌, ◌-◌, ◌*◌, ◌/◌, leb, ltb, if◌then◌else◌}
+use Rattle.types.specs.Base.{M, word, Outcome, refused, accepted}
 use Rattle.types.specs.Refusals.{does_not_fit, claimable_over_custody}
 use Rattle.event.specs.declared.adjust.Adjusted.{Adjusted}
 use Rattle.event.specs.declared.adjust.Adjusted.TheVariants.{Rewards, DoesNotFit, ClaimableOverCustody}

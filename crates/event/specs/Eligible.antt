@@ -1,6 +1,6 @@
 -- Item 3 of document 01: eligible amounts and ratios. Assumes nothing.
-use Rattle.std.specs.Prelude.{ℕ, ◌-◌, ◌*◌, ◌/◌, min, eqb}
-use Rattle.types.specs.Base.{M, if◌then◌else◌}
+use Rattle.std.specs.Prelude.{ℕ, ◌-◌, ◌*◌, ◌/◌, min, eqb, if◌then◌else◌}
+use Rattle.types.specs.Base.{M}
 use Rattle.event.specs.declared.eligible.EligibleDelegationData.{EligibleDelegationData}
 
 -- self eligible = smaller of cap and self total

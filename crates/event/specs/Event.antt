@@ -1,6 +1,6 @@
 -- Item 7 of document 01: the reward of one event. Assumes nothing.
-use Rattle.std.specs.Prelude.{Bool, ℕ, ◌-◌, ◌*◌, ◌/◌, eqb, leb, ltb}
-use Rattle.types.specs.Base.{M, word, if◌then◌else◌, Outcome, refused, accepted}
+use Rattle.std.specs.Prelude.{Bool, ℕ, ◌-◌, ◌*◌, ◌/◌, eqb, leb, ltb, if◌then◌else◌}
+use Rattle.types.specs.Base.{M, word, Outcome, refused, accepted}
 use Rattle.types.specs.Refusals.{does_not_fit}
 use Rattle.event.specs.declared.event.Event.{Event}
 use Rattle.event.specs.declared.event.Reward.{Reward}

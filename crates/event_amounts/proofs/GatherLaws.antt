@@ -10,7 +10,8 @@ use native.Mathlib.Omega.{arith}
 use lib.Dec.{ltb}
 use lib.ListN.{length, get_or, replicate}
 use borrow.Author.Tests.{lt-ltb, le-ltb, ltb-true}
-use Rattle.types.specs.Base.{word, if◌then◌else◌, sum_below, all_below, count_below}
+use Rattle.std.specs.Prelude.{if◌then◌else◌}
+use Rattle.types.specs.Base.{word, sum_below, all_below, count_below}
 use Rattle.types.proofs.Below.{and_left, and_both, sum_none, sum_more, sum_grows, sum_skips, all_none, all_more, all_each, all_not, all_at, count_none, count_more, count_le, count_skips}
 use Rattle.positions.specs.declared.Key.{Key}
 use Rattle.positions.specs.declared.position.Position.{Position}

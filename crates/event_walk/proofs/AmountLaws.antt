@@ -1,25 +1,22 @@
 -- Laws of the amounts in the course of one position's walk: one for each way on and each way out. Assumes nothing.
 use mathlib.Core.Path.{◌≡◌, refl, sym, subst, ◌∙◌}
 use mathlib.Core.Bool.{Bool, true, false}
-use mathlib.Core.List.{List, map}
+use mathlib.Core.List.{List}
 use Prim.Native.Nat.{ℕ, ◌+◌, ◌<◌, ◌≤◌}
 use native.Mathlib.Decide.{ℕ_discrete}
 use native.Mathlib.Nat.{add-zero}
 use native.Mathlib.Omega.{arith}
 use lib.Dec.{ltb}
-use lib.ListN.{length, get_or, set, length-set, length-map}
+use lib.ListN.{length, get_or, set, length-set}
 use lib.Seq.{get_or-set_same, get_or-set_other}
 use borrow.Author.Tests.{lt-ltb, le-ltb, ltb-true, ltb-false}
-use Rattle.types.specs.Base.{word, if◌then◌else◌, all_below}
+use Rattle.std.specs.Prelude.{if◌then◌else◌}
+use Rattle.types.specs.Base.{word, all_below}
 use Rattle.types.proofs.Below.{all_none, all_more, all_not}
 use Rattle.event_walk.specs.declared.EventAmounts.{EventAmounts}
 use Rattle.event_walk.specs.Span.{units_in}
 use Rattle.event_walk.specs.Walked.{AddedOf, WalkedOf}
 use Rattle.event_walk.proofs.SpanLaws.{units_most}
-
--- an array in a struct has the length of its type
-pub array_long : (xs : List ℕ) → length (map (λ (x : ℕ). x) xs) ≡ 52 → length xs ≡ 52
-array_long xs e = sym (length-map xs (λ (x : ℕ). x)) ∙ e
 
 module _ (epochs : List ℕ) (amount first last : ℕ) where
   -- what is added at k, and whether the sum is a word

@@ -8,7 +8,8 @@ use native.Mathlib.Omega.{arith}
 use lib.Dec.{ltb, leb}
 use lib.ListN.{get_or}
 use borrow.Author.Tests.{lt-ltb, le-ltb, lt-leb, le-leb, leb-true, leb-false, ltb-true, ltb-false}
-use Rattle.types.specs.Base.{word, if◌then◌else◌, Outcome, refused, accepted, map_outcome, is_accepted, or_zero, all_below, any_below}
+use Rattle.std.specs.Prelude.{if◌then◌else◌}
+use Rattle.types.specs.Base.{word, Outcome, refused, accepted, map_outcome, is_accepted, or_zero, all_below, any_below}
 use Rattle.types.specs.Refusals.{does_not_fit}
 use Rattle.types.proofs.Below.{all_each, all_same, and_left, and_right, any_none, any_more, any_at}
 use Rattle.positions.specs.declared.position.Position.{Position}

@@ -1,6 +1,6 @@
 -- The epochs in which a position adds, as its walk uses them. Assumes nothing.
-use Rattle.std.specs.Prelude.{◌≡◌, Bool, false, List, ℕ, ◌<◌, leb, ltb, get_or}
-use Rattle.types.specs.Base.{word, if◌then◌else◌, accepted, is_accepted, all_below, any_below}
+use Rattle.std.specs.Prelude.{◌≡◌, Bool, false, List, ℕ, ◌<◌, leb, ltb, get_or, if◌then◌else◌}
+use Rattle.types.specs.Base.{word, accepted, is_accepted, all_below, any_below}
 use Rattle.positions.specs.declared.position.Position.{Position}
 use Rattle.event_walk.specs.declared.span.Span.{Span}
 use Rattle.event_walk.specs.declared.span.Reach.{Reach}

@@ -1,6 +1,6 @@
 -- Item 8 of document 01: the walk over the newest events, and what gathers in each ring slot, over the image's words by name. Assumes nothing.
-use Rattle.std.specs.Prelude.{Bool, not, ◌&&◌, ◌||◌, List, ℕ, suc, ◌-◌, ◌*◌, ◌/◌, ◌%◌, min, ltb, length}
-use Rattle.types.specs.Base.{word, if◌then◌else◌, Outcome, map_outcome, is_accepted, or_zero, sum_below, all_below, count_below, first_below}
+use Rattle.std.specs.Prelude.{Bool, not, ◌&&◌, ◌||◌, List, ℕ, suc, ◌-◌, ◌*◌, ◌/◌, ◌%◌, min, ltb, length, if◌then◌else◌}
+use Rattle.types.specs.Base.{word, Outcome, map_outcome, is_accepted, or_zero, sum_below, all_below, count_below, first_below}
 use Rattle.positions.specs.declared.Key.{Key}
 use Rattle.positions.specs.declared.position.Position.{Position}
 use Rattle.positions.specs.State.{state_of, adds}

@@ -1,6 +1,6 @@
 -- What the walk's functions hand on: the newest events, and the amounts after one position's walk. Assumes nothing.
-use Rattle.std.specs.Prelude.{◌≡◌, true, List, ℕ, ◌+◌, ◌-◌, ◌<◌, ◌≤◌, eqb, ltb, get_or}
-use Rattle.types.specs.Base.{word, if◌then◌else◌, all_below}
+use Rattle.std.specs.Prelude.{◌≡◌, true, List, ℕ, ◌+◌, ◌-◌, ◌<◌, ◌≤◌, eqb, ltb, get_or, if◌then◌else◌}
+use Rattle.types.specs.Base.{word, all_below}
 use Rattle.image.specs.Layout.{Words}
 use Rattle.event_walk.specs.declared.EventAmounts.{EventAmounts}
 use Rattle.event_walk.specs.declared.newest.Newest.{Newest}

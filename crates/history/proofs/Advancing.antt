@@ -9,7 +9,8 @@ use native.Mathlib.Nat.{mod-lt, le-div_iff_mul-le}
 use native.Mathlib.Omega.{arith}
 use lib.Dec.{eqb, ltb}
 use borrow.Author.Tests.{lt-ltb, le-ltb, ne_eqb}
-use Rattle.types.specs.Base.{M, if◌then◌else◌, accepted, sum_below, count_below}
+use Rattle.std.specs.Prelude.{if◌then◌else◌}
+use Rattle.types.specs.Base.{M, accepted, sum_below, count_below}
 use Rattle.types.proofs.Below.{and_right, sum_same, sum_grows, sum_skips, sum_after, sum_scaled, first_le, first_before_law, first_past}
 use Rattle.publisher_caps.specs.Message.{rows_of}
 use Rattle.event.specs.Adjust.{rewards_of}

@@ -7,7 +7,8 @@ use Prim.Native.Nat.{ℕ, ◌+◌, ◌-◌, ◌≤◌, ◌<◌}
 use native.Mathlib.Omega.{arith}
 use lib.Dec.{ltb}
 use borrow.Author.Tests.{le-leb, lt-ltb, eq-eqb, ltb-true}
-use Rattle.types.specs.Base.{if◌then◌else◌, refused, accepted, sum_below}
+use Rattle.std.specs.Prelude.{if◌then◌else◌}
+use Rattle.types.specs.Base.{refused, accepted, sum_below}
 use Rattle.types.specs.Refusals.{payment_above_claimable}
 use Rattle.types.proofs.Below.{sum_le}
 use Rattle.types.proofs.OutcomeLaws.{test_passed}

@@ -6,7 +6,8 @@ use Prim.Native.Nat.{ℕ, ◌+◌, ◌-◌, ◌≤◌, ◌<◌}
 use native.Mathlib.Omega.{arith}
 use lib.Dec.{ltb}
 use borrow.Author.Tests.{ltb-true}
-use Rattle.types.specs.Base.{word, if◌then◌else◌, Outcome, accepted}
+use Rattle.std.specs.Prelude.{if◌then◌else◌}
+use Rattle.types.specs.Base.{word, Outcome, accepted}
 use Rattle.types.proofs.OutcomeLaws.{after_holds}
 use Rattle.image.specs.Layout.{read}
 use Rattle.image.specs.Seats.{fresh_words}

@@ -1,7 +1,7 @@
 -- 'The words of demand 3': lists of calls on one pool from a fresh one, and what is remembered of them. Each call is accepted or refused, and
 -- writes, as demand 2's definitions say. Assumes nothing.
-use Rattle.std.specs.Prelude.{Bool, false, not, ◌&&◌, List, [], ◌∷◌, ℕ, ◌+◌, ◌-◌, ◌*◌, ◌/◌, eqb, leb, ltb, length}
-use Rattle.types.specs.Base.{word, if◌then◌else◌, Outcome, refused, accepted, or_zero, after, sum_below}
+use Rattle.std.specs.Prelude.{Bool, false, not, ◌&&◌, List, [], ◌∷◌, ℕ, ◌+◌, ◌-◌, ◌*◌, ◌/◌, eqb, leb, ltb, length, if◌then◌else◌}
+use Rattle.types.specs.Base.{word, Outcome, refused, accepted, or_zero, after, sum_below}
 use Rattle.positions.specs.declared.Key.{Key}
 use Rattle.positions.specs.declared.position.PositionState.{PositionState}
 use Rattle.positions.specs.Positions.{position_from, in_publisher}

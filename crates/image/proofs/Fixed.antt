@@ -5,7 +5,8 @@ use Prim.Native.Nat.{ℕ}
 use native.Mathlib.Omega.{arith}
 use lib.Dec.{eqb}
 use lib.Seq.{ext_get_or}
-use Rattle.types.specs.Base.{if◌then◌else◌, Outcome, refused, accepted}
+use Rattle.std.specs.Prelude.{if◌then◌else◌}
+use Rattle.types.specs.Base.{Outcome, refused, accepted}
 use Rattle.types.specs.Refusals.{invalid_publisher}
 use Rattle.types.proofs.Fixed.{by_return}
 use Rattle.image.specs.declared.seats.PublisherIndex.{PublisherIndex}

@@ -9,7 +9,7 @@ use native.Mathlib.Omega.{arith}
 use lib.Dec.{eqb}
 use lib.ListN.{length, set}
 use borrow.Author.Tests.{eq-eqb, ne_eqb}
-use Rattle.types.specs.Base.{if◌then◌else◌}
+use Rattle.std.specs.Prelude.{if◌then◌else◌}
 use Rattle.positions.specs.declared.Key.{Key}
 use Rattle.delegation.specs.declared.DelegationState.{DelegationState}
 use Rattle.image.specs.Layout.{Whose, self, other, publishers, total_delegation, delta_delegation, publisher_stake_accounts, num_slash_events, delegation_fees, Field, head, seat, slot, share, Words, size, addr, InRange, read, image}

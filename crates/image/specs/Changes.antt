@@ -1,6 +1,6 @@
 -- Item 9's changes of a pool's words, in one shape. Assumes nothing.
-use Rattle.std.specs.Prelude.{Bool, true, false, List, ℕ, eqb}
-use Rattle.types.specs.Base.{if◌then◌else◌, Outcome, map_outcome, after}
+use Rattle.std.specs.Prelude.{Bool, true, false, List, ℕ, eqb, if◌then◌else◌}
+use Rattle.types.specs.Base.{Outcome, map_outcome, after}
 use Rattle.positions.specs.declared.Key.{Key}
 use Rattle.positions.specs.Key.{same_key}
 use Rattle.delegation.specs.declared.DelegationState.{DelegationState}

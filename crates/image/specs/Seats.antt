@@ -1,6 +1,6 @@
 -- Refusal 1, the seats of an image and what stands in them, and a fresh pool. Assumes nothing.
-use Rattle.std.specs.Prelude.{◌≡◌, Bool, ◌&&◌, List, ℕ, zero, suc, ◌-◌, ◌≤◌, ◌<◌, leb, ltb, eqb, length, get_or}
-use Rattle.types.specs.Base.{half, if◌then◌else◌, Outcome, refused, accepted, first_below}
+use Rattle.std.specs.Prelude.{◌≡◌, Bool, ◌&&◌, List, ℕ, zero, suc, ◌-◌, ◌≤◌, ◌<◌, leb, ltb, eqb, length, get_or, if◌then◌else◌}
+use Rattle.types.specs.Base.{half, Outcome, refused, accepted, first_below}
 use Rattle.types.specs.Refusals.{invalid_publisher, publisher_not_found}
 use Rattle.positions.specs.declared.Key.{Key}
 use Rattle.positions.specs.Key.{same_key}

@@ -6,7 +6,8 @@ use Prim.Native.Nat.{ℕ, ◌≤◌, ◌<◌}
 use native.Mathlib.Omega.{arith}
 use lib.Dec.{eqb, ltb}
 use borrow.Author.Tests.{lt-ltb, le-ltb, eq-eqb, ne_eqb}
-use Rattle.types.specs.Base.{if◌then◌else◌, Outcome, refused, accepted, after}
+use Rattle.std.specs.Prelude.{if◌then◌else◌}
+use Rattle.types.specs.Base.{Outcome, refused, accepted, after}
 use Rattle.types.specs.Refusals.{invalid_image, invalid_epoch, invalid_publisher_caps, invalid_y}
 use Rattle.types.proofs.OutcomeLaws.{test_passed}
 use Rattle.publisher_caps.specs.Message.{message_holds}

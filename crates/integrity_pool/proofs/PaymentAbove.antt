@@ -7,7 +7,8 @@ use Prim.Native.Nat.{ℕ, ◌+◌, ◌<◌}
 use native.Mathlib.Omega.{arith}
 use lib.Dec.{eqb, leb, ltb}
 use borrow.Author.Tests.{ltb-true}
-use Rattle.types.specs.Base.{word, if◌then◌else◌, Outcome, refused, accepted, is_accepted, sum_below, all_below}
+use Rattle.std.specs.Prelude.{if◌then◌else◌}
+use Rattle.types.specs.Base.{word, Outcome, refused, accepted, is_accepted, sum_below, all_below}
 use Rattle.types.specs.Refusals.{invalid_publisher, publisher_not_found, payment_above_claimable}
 use Rattle.types.proofs.OutcomeLaws.{not_accepted, test_refused, test_refuses, map_refused, then_refused}
 use Rattle.positions.specs.declared.Key.{Key}

@@ -1,6 +1,6 @@
 -- The public calls: answers with refusals in document 01's order, and the image that each leaves. Assumes nothing.
-use Rattle.std.specs.Prelude.{Bool, not, List, ℕ, ltb, eqb}
-use Rattle.types.specs.Base.{if◌then◌else◌, Outcome, refused, accepted, after}
+use Rattle.std.specs.Prelude.{Bool, not, List, ℕ, ltb, eqb, if◌then◌else◌}
+use Rattle.types.specs.Base.{Outcome, refused, accepted, after}
 use Rattle.types.specs.Refusals.{invalid_image, invalid_epoch, invalid_publisher_caps, invalid_y}
 use Rattle.publisher_caps.specs.Message.{message_holds}
 use Rattle.image.specs.Layout.{read, image}

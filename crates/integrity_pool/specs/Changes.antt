@@ -1,6 +1,6 @@
 -- Item 9 of document 01: the public calls besides fresh, their refusals in document 01's order, and what each changes. Assumes nothing.
-use Rattle.std.specs.Prelude.{Bool, not, ◌&&◌, ◌||◌, List, ℕ, ◌+◌, leb, ltb, eqb}
-use Rattle.types.specs.Base.{M, word, if◌then◌else◌, Outcome, refused, accepted, map_outcome, and_then}
+use Rattle.std.specs.Prelude.{Bool, not, ◌&&◌, ◌||◌, List, ℕ, ◌+◌, leb, ltb, eqb, if◌then◌else◌}
+use Rattle.types.specs.Base.{M, word, Outcome, refused, accepted, map_outcome, and_then}
 use Rattle.types.specs.Refusals.{invalid_image, invalid_positions, invalid_delegation_fee, does_not_fit, publisher_stake_account_mismatch, outdated_delegator_accounting, wrong_slash_event_order, invalid_slash_event_index, slash_event_ahead_of_now, publisher_or_reward_authority_needs_to_sign, current_stake_account_should_be_undelegated, stake_account_owner_needs_to_sign, account_not_enough_keys, new_stake_account_should_be_undelegated}
 use Rattle.positions.specs.declared.Key.{Key}
 use Rattle.positions.specs.declared.OptionKey.{OptionKey}

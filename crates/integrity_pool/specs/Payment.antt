@@ -1,6 +1,6 @@
 -- Item 8 of document 01: a payment, its answer with refusals in document 01's order, and the image that it leaves. Assumes nothing.
-use Rattle.std.specs.Prelude.{not, List, ℕ, ◌+◌, ◌-◌, ltb, eqb}
-use Rattle.types.specs.Base.{if◌then◌else◌, Outcome, refused, accepted, and_then, after}
+use Rattle.std.specs.Prelude.{not, List, ℕ, ◌+◌, ◌-◌, ltb, eqb, if◌then◌else◌}
+use Rattle.types.specs.Base.{Outcome, refused, accepted, and_then, after}
 use Rattle.types.specs.Refusals.{invalid_image, invalid_positions, outdated_publisher_accounting, payment_above_claimable, publisher_stake_account_mismatch, publisher_custody_account_required}
 use Rattle.positions.specs.declared.Key.{Key}
 use Rattle.positions.specs.declared.OptionKey.{OptionKey}

@@ -1,7 +1,7 @@
 -- A payment over lent records: the definitions of the call over words, at the words of the records, and what stands in the staker's record
 -- afterwards. Assumes nothing.
-use Rattle.std.specs.Prelude.{◌≡◌, true, not, List, ℕ, ◌≤◌}
-use Rattle.types.specs.Base.{if◌then◌else◌, Outcome, refused, after}
+use Rattle.std.specs.Prelude.{◌≡◌, true, not, List, ℕ, ◌≤◌, if◌then◌else◌}
+use Rattle.types.specs.Base.{Outcome, refused, after}
 use Rattle.types.specs.Refusals.{invalid_image, invalid_positions}
 use Rattle.positions.specs.declared.position.Position.{Position}
 use Rattle.image.specs.Layout.{read}

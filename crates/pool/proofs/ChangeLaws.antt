@@ -6,7 +6,8 @@ use Prim.Native.Nat.{ℕ, ◌<◌}
 use native.Mathlib.Omega.{arith}
 use lib.ListN.{get_or}
 use borrow.Author.Tests.{eq-eqb, ne_eqb}
-use Rattle.types.specs.Base.{if◌then◌else◌, Outcome, refused, accepted, map_outcome, and_then}
+use Rattle.std.specs.Prelude.{if◌then◌else◌}
+use Rattle.types.specs.Base.{Outcome, refused, accepted, map_outcome, and_then}
 use Rattle.types.specs.Refusals.{outdated_publisher_accounting}
 use Rattle.types.proofs.OutcomeLaws.{then_accepts}
 use Rattle.delegation.specs.declared.DelegationState.{DelegationState}

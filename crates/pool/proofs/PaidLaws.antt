@@ -6,7 +6,8 @@ use Prim.Native.Nat.{ℕ, zero, suc, ◌+◌, ◌<◌}
 use native.Mathlib.Omega.{arith}
 use lib.Dec.{leb}
 use borrow.Author.Tests.{leb-false, not-false}
-use Rattle.types.specs.Base.{word, if◌then◌else◌, Outcome, refused, accepted, is_accepted, sum_below, all_below}
+use Rattle.std.specs.Prelude.{if◌then◌else◌}
+use Rattle.types.specs.Base.{word, Outcome, refused, accepted, is_accepted, sum_below, all_below}
 use Rattle.types.proofs.Below.{all_at}
 use Rattle.types.proofs.OutcomeLaws.{test_passed, map_accepted}
 use Rattle.positions.specs.declared.Key.{Key}

@@ -7,7 +7,8 @@ use native.Mathlib.Omega.{arith}
 use lib.Dec.{leb}
 use lib.ListN.{get_or}
 use borrow.Author.Tests.{le-leb, lt-leb}
-use Rattle.types.specs.Base.{word, if◌then◌else◌, Outcome, refused, accepted, map_outcome, is_accepted, sum_below, all_below}
+use Rattle.std.specs.Prelude.{if◌then◌else◌}
+use Rattle.types.specs.Base.{word, Outcome, refused, accepted, map_outcome, is_accepted, sum_below, all_below}
 use Rattle.types.specs.Refusals.{does_not_fit}
 use Rattle.types.proofs.Below.{sum_none, sum_more, sum_same, sum_grows, all_none, all_more, all_not, all_same}
 use Rattle.positions.specs.declared.Key.{Key}

@@ -1,6 +1,6 @@
 -- Item 9 of document 01: add, remove and a slash that applies, over the image's words by name. Assumes nothing.
-use Rattle.std.specs.Prelude.{Bool, ℕ, eqb}
-use Rattle.types.specs.Base.{if◌then◌else◌, Outcome, refused, accepted, map_outcome, and_then}
+use Rattle.std.specs.Prelude.{Bool, ℕ, eqb, if◌then◌else◌}
+use Rattle.types.specs.Base.{Outcome, refused, accepted, map_outcome, and_then}
 use Rattle.types.specs.Refusals.{outdated_publisher_accounting}
 use Rattle.positions.specs.declared.Key.{Key}
 use Rattle.positions.specs.declared.position.PositionState.{PositionState}

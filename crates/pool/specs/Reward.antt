@@ -1,6 +1,6 @@
 -- Item 8 of document 01: what an account's positions have earned, over the image's words by name. Assumes nothing.
-use Rattle.std.specs.Prelude.{Bool, not, List, ℕ, ◌+◌, leb, get_or}
-use Rattle.types.specs.Base.{word, if◌then◌else◌, Outcome, refused, accepted, map_outcome, is_accepted, sum_below, all_below}
+use Rattle.std.specs.Prelude.{Bool, not, List, ℕ, ◌+◌, leb, get_or, if◌then◌else◌}
+use Rattle.types.specs.Base.{word, Outcome, refused, accepted, map_outcome, is_accepted, sum_below, all_below}
 use Rattle.types.specs.Refusals.{does_not_fit}
 use Rattle.positions.specs.declared.Key.{Key}
 use Rattle.event.specs.declared.event.Event.{Event}

@@ -6,7 +6,8 @@ use Prim.Native.Nat.{ℕ, ◌+◌, ◌/◌, ◌<◌}
 use native.Mathlib.Omega.{arith}
 use lib.Dec.{eqb, ltb, leb}
 use lib.ListN.{length, get_or}
-use Rattle.types.specs.Base.{M, word, half, if◌then◌else◌, Outcome, refused, accepted, map_outcome, and_then, is_accepted, sum_below, all_below}
+use Rattle.std.specs.Prelude.{if◌then◌else◌}
+use Rattle.types.specs.Base.{M, word, half, Outcome, refused, accepted, map_outcome, and_then, is_accepted, sum_below, all_below}
 use Rattle.types.specs.Refusals.{invalid_image, invalid_publisher, publisher_not_found, outdated_publisher_accounting, does_not_fit, unexpected_position_state}
 use Rattle.positions.specs.declared.Key.{Key}
 use Rattle.positions.specs.declared.OptionKey.{OptionKey}

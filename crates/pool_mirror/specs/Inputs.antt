@@ -1,6 +1,5 @@
 -- What the calls are given of a caller's numbers and fixed arrays. Assumes nothing.
-use Rattle.std.specs.Prelude.{List, ℕ, eqb, get_or}
-use Rattle.types.specs.Base.{if◌then◌else◌}
+use Rattle.std.specs.Prelude.{List, ℕ, eqb, get_or, if◌then◌else◌}
 use Rattle.positions.specs.declared.Key.{Key}
 use Rattle.positions.specs.declared.OptionKey.{OptionKey}
 use Rattle.positions.specs.declared.OptionKey.TheVariants.{Some, None}

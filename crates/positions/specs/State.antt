@@ -1,6 +1,6 @@
 -- Item 6: the state of a position in an epoch. Assumes nothing.
-use Rattle.std.specs.Prelude.{Bool, true, false, not, List, ℕ, ◌+◌, ltb, leb, eqb, length, get_or}
-use Rattle.types.specs.Base.{word, if◌then◌else◌, Outcome, refused, accepted}
+use Rattle.std.specs.Prelude.{Bool, true, false, not, List, ℕ, ◌+◌, ltb, leb, eqb, length, get_or, if◌then◌else◌}
+use Rattle.types.specs.Base.{word, Outcome, refused, accepted}
 use Rattle.types.specs.Refusals.{invalid_positions, does_not_fit}
 use Rattle.positions.specs.declared.position.Position.{Position}
 use Rattle.positions.specs.declared.position.PositionState.{PositionState}

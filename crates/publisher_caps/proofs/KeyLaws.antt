@@ -9,7 +9,8 @@ use lib.Arith.{lt_of_le-ne}
 use lib.Dec.{ltb, eqb}
 use lib.ListN.{get_or}
 use borrow.Author.Tests.{lt-ltb, le-ltb, eq-eqb, ne_eqb, ltb-true, ltb-false, eqb-true, eqb-false}
-use Rattle.types.specs.Base.{word, if◌then◌else◌}
+use Rattle.std.specs.Prelude.{if◌then◌else◌}
+use Rattle.types.specs.Base.{word}
 use Rattle.publisher_caps.specs.declared.Order.{Order}
 use Rattle.publisher_caps.specs.declared.Order.TheVariants.{Less, Equal, Greater}
 use Rattle.publisher_caps.specs.Key.{big_endian, little_endian, swapped, pair, number, order_of}

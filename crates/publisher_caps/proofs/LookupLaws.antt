@@ -10,7 +10,8 @@ use native.Mathlib.Omega.{arith}
 use lib.Dec.{ltb, eqb}
 use lib.ListN.{get_or}
 use borrow.Author.Tests.{eq-eqb, ne_eqb, ltb-true, ltb-false, eqb-true, eqb-false}
-use Rattle.types.specs.Base.{if◌then◌else◌, word}
+use Rattle.std.specs.Prelude.{if◌then◌else◌}
+use Rattle.types.specs.Base.{word}
 use Rattle.publisher_caps.specs.declared.Found.{Found}
 use Rattle.publisher_caps.specs.declared.Found.TheVariants.{At, Nothing}
 use Rattle.publisher_caps.specs.Key.{big_endian, number}

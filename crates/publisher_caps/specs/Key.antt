@@ -1,6 +1,6 @@
 -- A key as a number below 2^256: its 32 bytes in order, the first the highest. Keys compare by bytes as these numbers do. Assumes nothing.
-use Rattle.std.specs.Prelude.{List, [], ◌∷◌, ℕ, zero, suc, ◌+◌, ◌*◌, ◌/◌, ◌%◌, ◌^◌, ltb, eqb, get_or}
-use Rattle.types.specs.Base.{word, if◌then◌else◌}
+use Rattle.std.specs.Prelude.{List, [], ◌∷◌, ℕ, zero, suc, ◌+◌, ◌*◌, ◌/◌, ◌%◌, ◌^◌, ltb, eqb, get_or, if◌then◌else◌}
+use Rattle.types.specs.Base.{word}
 use Rattle.positions.specs.declared.Key.{Key}
 use Rattle.publisher_caps.specs.declared.Order.{Order}
 use Rattle.publisher_caps.specs.declared.Order.TheVariants.{Less, Equal, Greater}

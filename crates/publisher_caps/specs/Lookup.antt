@@ -1,6 +1,6 @@
 -- Item 2: the row of a key, and a key's cap. Assumes nothing.
-use Rattle.std.specs.Prelude.{List, ℕ, zero, suc, ◌+◌, ◌≤◌, ◌<◌, eqb}
-use Rattle.types.specs.Base.{word, if◌then◌else◌}
+use Rattle.std.specs.Prelude.{List, ℕ, zero, suc, ◌+◌, ◌≤◌, ◌<◌, eqb, if◌then◌else◌}
+use Rattle.types.specs.Base.{word}
 use Rattle.publisher_caps.specs.declared.Found.{Found}
 use Rattle.publisher_caps.specs.declared.Found.TheVariants.{At, Nothing}
 use Rattle.publisher_caps.specs.Key.{number}

@@ -4,7 +4,8 @@ use mathlib.Core.Logic.{◌≢◌}
 use mathlib.Core.Bool.{Bool, true, false}
 use Prim.Native.Nat.{ℕ}
 use native.Mathlib.Omega.{arith}
-use Rattle.types.specs.Base.{if◌then◌else◌, Outcome, refused, accepted, map_outcome, and_then, after}
+use Rattle.std.specs.Prelude.{if◌then◌else◌}
+use Rattle.types.specs.Base.{Outcome, refused, accepted, map_outcome, and_then, after}
 
 -- a test on the way was passed, and what comes after it accepts
 pub test_passed : {A : Type 0} (t : Bool) (k : ℕ) (rest : Outcome A) (a : A) → (if t then refused k else rest) ≡ accepted a

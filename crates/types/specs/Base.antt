@@ -13,11 +13,6 @@ word = 2 ^ 64
 abbrev pub half : ℕ
 half = 2 ^ 63
 
-infixr 1 if◌then◌else◌
-abbrev pub if◌then◌else◌ : {A : Type 0} → Bool → A → A → A
-if true then a else b = a
-if false then a else b = b
-
 -- a call is refused with a number of the table 'Turned back' (Refusals.antt), or accepted with its values
 pub data Outcome (A : Type 0) : Type 0 where
   refused : ℕ → Outcome A

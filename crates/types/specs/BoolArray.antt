@@ -1,8 +1,8 @@
 -- Item 1's marks for up to 1,024 rows: row i is bit i mod 64 of word i / 64. Assumes nothing.
-use Rattle.std.specs.Prelude.{Bool, ◌&&◌, List, ◌≡◌, ℕ, ◌/◌, ◌%◌, ◌^◌, ◌≤◌, ◌<◌, ltb, eqb, get_or, set}
+use Rattle.std.specs.Prelude.{Bool, ◌&&◌, List, ◌≡◌, ℕ, ◌/◌, ◌%◌, ◌^◌, ◌≤◌, ◌<◌, ltb, eqb, get_or, set, if◌then◌else◌}
 use Rattle.std.specs.Int.Count.{ones}
 use Rattle.std.specs.Int.Bits.{bit_or}
-use Rattle.types.specs.Base.{if◌then◌else◌, count_below}
+use Rattle.types.specs.Base.{count_below}
 
 -- bit b of a word
 abbrev pub bit_at : (w b : ℕ) → ℕ

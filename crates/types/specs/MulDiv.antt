@@ -1,6 +1,6 @@
 -- Item 1: the floor of a product over a divisor, with its remainder. Assumes nothing.
-use Rattle.std.specs.Prelude.{◌≡◌, ℕ, ◌+◌, ◌*◌, ◌/◌, ◌%◌, ◌<◌, ltb}
-use Rattle.types.specs.Base.{word, if◌then◌else◌}
+use Rattle.std.specs.Prelude.{◌≡◌, ℕ, ◌+◌, ◌*◌, ◌/◌, ◌%◌, ◌<◌, ltb, if◌then◌else◌}
+use Rattle.types.specs.Base.{word}
 use Rattle.types.specs.declared.mul_div.MulDiv.{MulDiv}
 use Rattle.types.specs.declared.mul_div.MulDiv.TheVariants.{Fits, DoesNotFit}
 

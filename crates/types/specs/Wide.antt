@@ -1,6 +1,6 @@
 -- Numbers of two words. Assumes nothing.
-use Rattle.std.specs.Prelude.{ℕ, ◌+◌, ◌*◌, ltb}
-use Rattle.types.specs.Base.{word, if◌then◌else◌}
+use Rattle.std.specs.Prelude.{ℕ, ◌+◌, ◌*◌, ltb, if◌then◌else◌}
+use Rattle.types.specs.Base.{word}
 use Rattle.types.specs.declared.wide.Wide.{Wide}
 use Rattle.types.specs.declared.wide.Fit.{Fit}
 use Rattle.types.specs.declared.wide.Fit.TheVariants.{Word, DoesNotFit}

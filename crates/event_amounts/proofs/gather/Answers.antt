@@ -1,5 +1,4 @@
 use Prim.Native.Nat.{◌-◌}
-use borrow.Author.Tests.{not-false}
 use Rattle.image.specs.Layout.{read}
 use Rattle.event_amounts.proofs.GatherLaws.{gather_end}
 use Rattle.event_amounts.proofs.TurnLaws.{Round, walked_start, round_walked}
@@ -12,7 +11,7 @@ round : (c : Else-not-four_fit) →
     let t = c in
     let s = t in
     let a = s.args in
-    Round a.e (read a.p a.e a.pool.now) a.words.now a.publisher a.from-epoch a.unlocking-duration
+    Round a.e (read a.p a.e a.pool.now) a.words.now a.publisher a.from_epoch a.unlocking_duration
     s.read_newest-newest.result s.loop-i.i s.loop-i.amounts s.loop-i.drawn s.loop-i.walks
     t.turn_of-a.result t.turn_of-b.result
     t.turn_of-c.result t.turn_of-d.result
@@ -28,7 +27,7 @@ round c =
       two = t.turn_of-b.ensures;
       three = t.turn_of-c.ensures;
       four = t.turn_of-d.ensures;
-      fit = rw (not-false c.four_fit.result c.if-not-four_fit.false) at c.four_fit.ensures;
+      fit = rw c.if-not-four_fit.false at c.four_fit.ensures;
     }
 
 pub loop-i-init : goal.loop-i-init

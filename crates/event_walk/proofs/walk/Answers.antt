@@ -1,6 +1,6 @@
 use mathlib.Core.Path.{refl}
 use Prim.Native.Nat.{◌-◌}
-use Rattle.event_walk.proofs.AmountLaws.{array_long, added_none, added_more, walked_over}
+use Rattle.event_walk.proofs.AmountLaws.{added_none, added_more, walked_over}
 use native.Mathlib.Omega.{arith}
 use Rattle.event_walk.proofs.walk.Goals as goal
 
@@ -9,7 +9,7 @@ loop-k-init c = (
   omega arith,
   c.requires.1,
   refl,
-  added_none _ _ _ _ _ (array_long c.args.start.amounts c.well_formed.1.1.1.1.1.1.0.1.1.1.0.1.0.1),
+  added_none _ _ _ _ _ c.well_formed.1.1.1.1.1.1.0.1.1.1.0.1.0.1,
 )
 
 pub returns-then-units-held : goal.returns-then-units-held

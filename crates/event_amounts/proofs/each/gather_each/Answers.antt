@@ -1,6 +1,7 @@
 use mathlib.Core.Path.{refl}
 use Prim.Native.Nat.{◌-◌}
 use native.Mathlib.Omega.{arith}
+use borrow.Author.Tests.{not-true, not-false}
 use Rattle.event_amounts.proofs.GatherLaws.{gather_start, gather_skip, reads_fit, gather_unfit, gather_walked, gather_past, gather_end}
 use Rattle.event_amounts.proofs.each.gather_each.Goals as goal
 
@@ -29,7 +30,7 @@ returns-then-not-gathered c =
     let newest = s.read_newest-newest.ensures in
     let ahead = s.loop-i.invariant in
     gather_past _ _ _ _ _ _ _ newest _ _ ahead (omega arith) _ s.position_at-position.ensures _ s.span_of-reach.ensures _
-    c.in-Draws.is _ c.walk-gathered.ensures c.if-not-gathered.true
+    c.in-Draws.is _ c.walk-gathered.ensures (not-true _ c.if-not-gathered.true)
 
 pub loop-i-preserved : goal.loop-i-preserved
 loop-i-preserved c =
@@ -39,7 +40,7 @@ loop-i-preserved c =
     gather_skip _ _ _ _ _ _ _ _ _
     (gather_walked _ _ _ _ _ _ _ newest _ _ ahead (omega arith) _ s.position_at-position.ensures _ s.span_of-reach.ensures _
     c.in-Draws.is _ c.walk-gathered.ensures
-    c.if-not-gathered.false)
+    (not-false _ c.if-not-gathered.false))
     c.next_match-i-in-loop-i.ensures
 
 pub returns : goal.returns

@@ -1,26 +1,14 @@
 use Rattle.text.proofs.WordsLaws.{item_wrong, item_fits, item_ends, item_goes, item_long, room_full, laid_full}
 use native.Mathlib.Omega.{arith}
-use Prim.Native.Nat.{ℕ, ◌-◌}
-use mathlib.Core.Path.{◌≡◌, ◌∙◌}
-use mathlib.Core.Logic.{⊎_elim}
-use mathlib.Core.List.{[], ◌∷◌}
-use types.Run.{OneOf}
-use denote.Enum.Declared.{tag_of}
-use Rattle.text.specs.declared.items.WordsRead.{WordsRead}
-use Rattle.text.specs.declared.items.WordsRead.TheVariants.{Words}
-use Rattle.text.specs.contracts.items.WordsRead.{the_type}
+use mathlib.Core.Path.{◌∙◌}
 use Rattle.text.proofs.items.words.Goals as goal
-
--- the tags of the answers that are no count
-not_words : (r : WordsRead) → OneOf (1 ∷ 2 ∷ 3 ∷ []) (tag_of the_type r) → (n : ℕ) → r ≡ Words n → ⊥
-not_words r tags n e = ⊎_elim (λ t. omega arith) (⊎_elim (λ t. omega arith) (λ t. omega arith)) (rw e at tags)
 
 pub returns-in_default : goal.returns-in_default
 returns-in_default c =
     let p = c in
     let at = p.loop-count in
     let w = item_wrong _ at.from _ p.end_of-to.ensures _ at.count at.out _ at.invariant.2 (omega arith) _
-    p.put-read.ensures.0 p.put-read.ensures.1 (not_words _ c.in-Words.keys2) in
+    p.put-read.ensures.0 p.put-read.ensures.1 c.in_default.not-Words in
     (w.0 ∙ at.invariant.3, w.1 ∙ at.invariant.4)
 
 pub overflow_add-count : goal.overflow_add-count
