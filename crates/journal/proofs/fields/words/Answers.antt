@@ -1,4 +1,5 @@
-use Rattle.std.proofs.Common.{◌-◌, arith, not-false}
+use Rattle.std.proofs.Common.{◌-◌, arith}
+use Rattle.std.proofs.lemmas.Bool.{not-false}
 use Rattle.journal.proofs.fields.words.Goals as goal
 
 pub loop-count-smaller : goal.loop-count-smaller
