@@ -6,14 +6,9 @@ use mathlib.Core.List.{List}
 use native.Mathlib.Omega.{arith}
 use lib.Dec.{eqb, leb, ltb}
 use lib.ListN.{length, get_or}
-<<<<<<< HEAD
-use borrow.Author.Tests.{le-leb, lt-leb, lt-ltb, le-ltb, eq-eqb, leb-true, eqb-true, ltb-true}
+use borrow.Author.Tests.{le-leb, lt-leb, lt-ltb, le-ltb, leb-true, eqb-true, ltb-true}
 use Rattle.std.specs.Prelude.{if◌then◌else◌}
 use Rattle.types.specs.Base.{half, refused, accepted, first_below}
-=======
-use borrow.Author.Tests.{le-leb, lt-leb, lt-ltb, le-ltb, leb-true, eqb-true, ltb-true}
-use Rattle.types.specs.Base.{half, if◌then◌else◌, refused, accepted, first_below}
->>>>>>> e3658f2e59d6df4b8ce9657519ae110050169b63
 use Rattle.types.specs.Refusals.{invalid_publisher, publisher_not_found}
 use Rattle.types.proofs.Below.{and_both, NoneBelow, first_at, first_none, first_le}
 use Rattle.positions.specs.declared.Key.{Key}
