@@ -1,37 +1,25 @@
-use mathlib.Core.Path.{refl, sym, ◌∙◌}
-use native.Mathlib.Omega.{arith}
+use Rattle.std.proofs.Common.{refl, sym, ◌∙◌, arith}
+use Rattle.std.proofs.lemmas.Bool.{not-true, not-false}
 use Rattle.lent.proofs.ListedLaws.{stepped_wrong, stepped_unheld, stepped_unfit, stepped_other, stepped_walked}
 use Rattle.lent.proofs.gather.gather_record.Goals as goal
 
 pub returns-then-not-so_far : goal.returns-then-not-so_far
-returns-then-not-so_far c = stepped_wrong _ _ _ _ c.if-not-so_far.true
+returns-then-not-so_far c = stepped_wrong _ _ _ _ (not-true _ c.if-not-so_far.true)
 
 pub returns-then-not-right : goal.returns-then-not-right
-returns-then-not-right c =
-    stepped_unheld _ _ _ _ _ refl (sym c.record_holds-right.ensures ∙ c.if-not-right.true)
+returns-then-not-right c = stepped_unheld _ _ _ _ _ refl (sym c.record_holds-right.ensures ∙ c.if-not-right.true)
 
 pub returns-then-not-gathered : goal.returns-then-not-gathered
 returns-then-not-gathered c =
-    let s = c in
-    let held = s.if-not-so_far.false in
-    let right = sym s.record_holds-right.ensures ∙ s.if-not-right.false in
-    stepped_unfit _ _ _ _ held (omega arith) right c.if-not-gathered.true
+    stepped_unfit _ _ _ _ (not-false _ c.if-not-so_far.false) (omega arith) (sym c.record_holds-right.ensures ∙ c.if-not-right.false)
+    (not-true _ c.if-not-gathered.true)
 
 pub returns-then-not-found : goal.returns-then-not-found
 returns-then-not-found c =
-    let u = c in
-    let s = u in
-    let held = s.if-not-so_far.false in
-    let right = sym s.record_holds-right.ensures ∙ s.if-not-right.false in
-    stepped_other _ _ _ _ held (omega arith) right u.if-not-gathered.false
-    (sym c.record_in-found.ensures ∙ c.if-not-found.true)
+    stepped_other _ _ _ _ (not-false _ c.if-not-so_far.false) (omega arith) (sym c.record_holds-right.ensures ∙ c.if-not-right.false)
+    (not-false _ c.if-not-gathered.false) (sym c.record_in-found.ensures ∙ c.if-not-found.true)
 
 pub returns : goal.returns
 returns c =
-    let u = c in
-    let s = u in
-    let pre = s.requires in
-    let held = s.if-not-so_far.false in
-    let right = sym s.record_holds-right.ensures ∙ s.if-not-right.false in
-    stepped_walked _ _ _ _ held (omega arith) right u.if-not-gathered.false _ pre.1
-    (sym c.record_in-found.ensures ∙ c.if-not-found.false) c.walk_record-walked.ensures
+    stepped_walked _ _ _ _ (not-false _ c.if-not-so_far.false) (omega arith) (sym c.record_holds-right.ensures ∙ c.if-not-right.false)
+    (not-false _ c.if-not-gathered.false) _ c.requires.1 (sym c.record_in-found.ensures ∙ c.if-not-found.false) c.walk_record-walked.ensures
