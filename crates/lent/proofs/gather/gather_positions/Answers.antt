@@ -1,4 +1,4 @@
-use Rattle.std.proofs.Common.{◌≡◌, ◌<◌, length, min, sym, ap, ◌∙◌, arith, rules}
+use Rattle.std.proofs.Common.{◌<◌, length, sym, arith}
 use Rattle.lent.specs.Records.{words_of}
 use Rattle.lent.proofs.RecordLaws.{words_count, words_whole, words_position}
 use Rattle.lent.proofs.ListedLaws.{listing_start, listing_end}

@@ -1,6 +1,5 @@
-use Rattle.std.proofs.Common.{◌≡◌, ◌<◌, List, length, take, sym, ◌∙◌, arith}
+use Rattle.std.proofs.Common.{◌≡◌, take, sym, ◌∙◌, arith}
 use Rattle.std.proofs.lemmas.List.{take_all}
-use Rattle.positions.specs.declared.position.Position.{Position}
 use Rattle.lent.proofs.payment.pay_by_value.Goals as goal
 
 -- past the array's end there is nothing to take
