@@ -13,7 +13,7 @@ use Rattle.types.proofs.Below.{sum_same}
 use Rattle.publisher_caps.specs.Message.{time_of, rows_of}
 use Rattle.event.specs.Adjust.{Adjustment, adjust_of}
 use Rattle.event.proofs.AdjustLaws.{adjust_keeps}
-use Rattle.image.specs.Layout.{last_updated_epoch, claimable_rewards, num_events, head, Words, num_events_at, read}
+use Rattle.image.specs.Layout.{last_updated_epoch, claimable_rewards, num_events, head, Words, read}
 use Rattle.image.specs.Seats.{seats_of}
 use Rattle.image.proofs.SeatLaws.{seats_le, read_at}
 use Rattle.advance_plan.specs.declared.Given.{Given}

@@ -1,6 +1,6 @@
 -- Items 4 and 5 of document 01: an advance and a forecast, over the image's words by name. Assumes nothing.
 use Rattle.std.specs.Prelude.{ℕ, zero, suc, ◌+◌, ◌-◌, ◌/◌, ◌%◌, min, Bool, not, ◌&&◌, List, ◌==◌, nat_eq, nat_le, nat_lt, if◌then◌else◌}
-use Rattle.types.specs.Base.{word, half, Outcome, refused, accepted, map_outcome, sum_below, all_below, any_below, count_below}
+use Rattle.types.specs.Base.{word, half, Outcome, refused, map_outcome, sum_below, all_below, any_below, count_below}
 use Rattle.types.specs.Refusals.{unverified_publisher_caps, pool_data_already_up_to_date, outdated_publisher_caps, does_not_fit}
 use Rattle.publisher_caps.specs.Key.{number_of}
 use Rattle.publisher_caps.specs.Lookup.{cap_of}

@@ -1,12 +1,12 @@
 -- What the contracts here fix: any two results of the same inputs are the same, or agree in all that may be read. Assumes nothing.
-use mathlib.Core.Path.{◌≡◌, refl, sym, ap, ◌∙◌}
+use mathlib.Core.Path.{◌≡◌, sym, ap, ◌∙◌}
 use mathlib.Core.Bool.{true, false, true≢false}
 use mathlib.Core.List.{List}
 use Prim.Native.Nat.{ℕ, ◌<◌}
 use native.Mathlib.Omega.{arith}
 use lib.ListN.{length, get_or}
 use lib.Seq.{ext_get_or}
-use Rattle.types.specs.Base.{word, accepted, is_accepted, all_below}
+use Rattle.types.specs.Base.{word, is_accepted, all_below}
 use Rattle.types.proofs.Below.{all_each}
 use Rattle.positions.specs.declared.position.Position.{Position}
 use Rattle.image.specs.Layout.{Words}

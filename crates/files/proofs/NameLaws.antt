@@ -1,34 +1,17 @@
--- Laws of the second name and of the folder's name. Assumes nothing.
+-- Laws of the second name. Assumes nothing.
 use mathlib.Core.Path.{◌≡◌, refl, sym, ap, ◌∙◌}
 use mathlib.Core.Bool.{Bool, true, false}
-use mathlib.Core.List.{List, [], ◌∷◌, ◌++◌, append_assoc, append-nil}
+use mathlib.Core.List.{List, [], ◌∷◌, ◌++◌, append_assoc}
 use Prim.Native.Nat.{ℕ, zero, suc, ◌+◌, ◌-◌, ◌*◌, ◌/◌, ◌%◌, ◌^◌, ◌≤◌, ◌<◌}
-use native.Mathlib.Nat.{add-zero, pos_of_ne-zero, pow-succ', pow-le-pow_right}
-use native.Mathlib.Numerals.{add-one}
+use native.Mathlib.Nat.{pow-succ', pow-le-pow_right}
 use native.Mathlib.Omega.{arith}
 use lib.Dec.{ltb, leb}
-use lib.ListN.{length, take, set, get_or, length-append}
-use lib.Seq.{take-suc, take-suc-set, take_all}
-use borrow.Author.Tests.{le-leb, lt-leb, le-ltb, lt-ltb, leb-true, leb-false, eq-eqb, ne_eqb}
+use lib.ListN.{length, take, length-append}
+use borrow.Author.Tests.{le-leb, lt-leb, le-ltb, lt-ltb, leb-true, leb-false}
 use Rattle.io.specs.Digits.{last_digits, IsDigitCount}
-use Rattle.text.specs.Items.{Last}
-use Rattle.text.proofs.Fixed.{last_fixes}
-use Rattle.files.specs.Name.{decimal_in, dotted, ending_of, second_name, NameMade, PutAt, FolderOf}
+use Rattle.files.specs.Name.{decimal_in, dotted, ending_of, second_name, NameMade, PutAt}
 
 -- ---- bytes put behind others
-
-module _ (s old : List ℕ) (at : ℕ) where
-  pub put_none : take (at + 0) old ≡ take at old ++ take 0 s
-  put_none = ap (λ (k : ℕ). take k old) (add-zero at) ∙ sym (append-nil (take at old))
-
-  pub put_more : (out : List ℕ) (i : ℕ) → at + i < length out → i < length s → take (at + i) out ≡ take at old ++ take i s
-      → take (at + (i + 1)) (set out (at + i) (get_or s i 0)) ≡ take at old ++ take (i + 1) s
-  put_more out i h k e =
-      let q : at + (i + 1) ≡ suc (at + i) = omega arith in
-      rw (q, take-suc-set out (at + i) (get_or s i 0) h, e, append_assoc, add-one i, take-suc s i 0 k)
-
-  pub put_all : (out : List ℕ) (i : ℕ) → i ≤ length s → length s ≤ i → take (at + i) out ≡ take at old ++ take i s → PutAt s old out at (at + i)
-  put_all out i h k e = record { ended = omega arith; put = e ∙ ap (λ (t : List ℕ). take at old ++ t) (take_all i s k) }
 
 -- one list and then another
 pub put_both : (s t old mid new : List ℕ) (at m r : ℕ) → PutAt s old mid at m → PutAt t mid new m r → PutAt (s ++ t) old new at r
@@ -128,19 +111,3 @@ module _ (path : List ℕ) (a b : ℕ) where
   unfolding second_name
   name_none size n new m h =
       m.counted ∙ rw (lt-leb (length (path ++ ending_of a b)) size (rw length-append (omega (arith, ending_length a b))))
-
--- ---- the folder
-
-module _ (path : List ℕ) (at : ℕ) (l : Last 47 path at) where
-  pub folder_none : at ≡ length path → FolderOf path 0
-  folder_none e = record { within = omega arith; by = λ k m. rw (last_fixes 47 path k at m l, eq-eqb at (length path) e) }
-
-  pub folder_root : (at ≡ length path → ⊥) → at ≡ 0 → FolderOf path 1
-  folder_root d e =
-      record {
-        within = pos_of_ne-zero (λ q. d (e ∙ sym q));
-        by = λ k m. rw (last_fixes 47 path k at m l, ne_eqb at (length path) d, eq-eqb at 0 e);
-      }
-
-  pub folder_there : (at ≡ length path → ⊥) → (at ≡ 0 → ⊥) → FolderOf path at
-  folder_there d e = record { within = l.within; by = λ k m. rw (last_fixes 47 path k at m l, ne_eqb at (length path) d, ne_eqb at 0 e) }

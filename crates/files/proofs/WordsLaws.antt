@@ -6,7 +6,7 @@ use native.Mathlib.Nat.{add-zero, mod-eq_of_lt}
 use native.Mathlib.Numerals.{add-one}
 use native.Mathlib.Omega.{arith}
 use lib.ListN.{length, get_or, take, set, length-append}
-use lib.Seq.{take-suc, take-suc-set, take_at, take_all, get_or-append-add}
+use lib.Seq.{take-suc, take-suc-set, take_at, get_or-append-add}
 use Rattle.files.specs.Words.{word_at, words_of, eight, bytes_of}
 
 -- ---- the loops
@@ -19,11 +19,6 @@ pub words_more : (s out : List ℕ) (i w : ℕ) → i < length out → take i ou
     → take (i + 1) (set out i w) ≡ words_of s (i + 1)
 unfolding words_of
 words_more s out i w h e q = rw (add-one i, take-suc-set out i w h, e, q)
-
-pub words_all : (s out : List ℕ) (i n : ℕ) → length out ≡ n → i ≤ n → n ≤ i → take i out ≡ words_of s i → out ≡ words_of s n
-words_all s out i n l h k e =
-    let q : i ≡ n = omega arith in
-    sym (take_all i out (omega arith)) ∙ e ∙ ap (λ (k : ℕ). words_of s k) q
 
 pub bytes_none : (l : List ℕ) → [] ≡ bytes_of l 0
 unfolding bytes_of
@@ -46,12 +41,6 @@ bytes_more l front part back i e p =
     length-append front part ∙ omega (arith, ap length e, ap length p, length_bytes l i, length_eight (get_or l i 0)) in
     ap (λ (r : List ℕ). take ((i + 1) * 8) r) (sym (append_assoc front part back)) ∙ take_at (front ++ part) back ((i + 1) * 8) k
     ∙ rw (add-one i, e, p)
-
-pub bytes_all : (l out : List ℕ) (i : ℕ) → length out ≡ length l * 8 → i ≤ length l → length l ≤ i → take (i * 8) out ≡ bytes_of l i
-    → out ≡ bytes_of l (length l)
-bytes_all l out i h a b e =
-    let q : i ≡ length l = omega arith in
-    sym (take_all (i * 8) out (omega arith)) ∙ e ∙ ap (λ (k : ℕ). bytes_of l k) q
 
 -- eight stores
 pub stored : (out : List ℕ) (w : ℕ) → length out ≡ 8
@@ -120,6 +109,6 @@ words_back l back zero h small = refl
 words_back l back (suc n) h small =
     let rest = eight (get_or l n 0) ++ back in
     let front = bytes_of l n in
-    let e : (front ++ eight (get_or l n 0)) ++ back ≡ front ++ rest = append_assoc front (eight (get_or l n 0)) back in
+    let e : bytes_of l (suc n) ++ back ≡ front ++ rest = append_assoc front (eight (get_or l n 0)) back in
     let w : word_at (front ++ rest) (n * 8) ≡ get_or l n 0 = rw (length_bytes l n) at (word_back front back (get_or l n 0) (small n)) in
-    rw (e, words_back l rest n (omega arith) small, w) (sym (take-suc l n 0 (omega arith)))
+    ap (λ (s : List ℕ). words_of s (suc n)) e ∙ rw (words_back l rest n (omega arith) small, w) (sym (take-suc l n 0 (omega arith)))

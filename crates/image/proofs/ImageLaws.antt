@@ -1,18 +1,17 @@
 -- An image is its words by name: each place holds a field in range, a write changes one field, and equal fields make equal images.
 -- Assumes nothing.
 use Prim.Native.Nat.{ℕ, ◌+◌, ◌*◌, ◌-◌, ◌/◌, ◌%◌, ◌≤◌, ◌<◌}
-use mathlib.Core.Path.{◌≡◌, refl, ap, sym, ◌∙◌}
+use mathlib.Core.Path.{◌≡◌, refl, sym, ◌∙◌}
 use mathlib.Core.Logic.{◌≢◌}
 use mathlib.Core.Bool.{Bool, true, false, cond}
 use mathlib.Core.List.{List}
 use native.Mathlib.Omega.{arith}
 use native.Mathlib.Nat.{div-add-mod', div-lt_iff_lt-mul, mod-lt}
 use lib.Dec.{eqb, ltb}
-use lib.ListN.{length, set}
-use lib.Seq.{ext_get_or, get_or-set_same, get_or-set_other}
+use lib.ListN.{length}
+use lib.Seq.{ext_get_or}
 use borrow.Author.Tests.{ltb-true, ltb-false, eqb-true, eqb-false}
 use Rattle.image.specs.Layout.{Field, event_size, events_at, size, addr, InRange, if_below, if_equal, side_field, event_field, field_of, read}
-use Rattle.image.proofs.LayoutLaws.{field_of_addr, addr_lt}
 
 by_below : (Q : Field → Type 0) (i b : ℕ) (x y : Field) → (i < b → Q x) → (b ≤ i → Q y) → Q (if_below i b x y)
 unfolding if_below

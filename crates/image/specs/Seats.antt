@@ -7,7 +7,7 @@ use Rattle.positions.specs.Key.{same_key}
 use Rattle.delegation.specs.declared.DelegationState.{DelegationState}
 use Rattle.image.specs.declared.seats.PublisherIndex.{PublisherIndex}
 use Rattle.image.specs.declared.seats.PublisherIndex.TheVariants.{Index, InvalidPublisher, PublisherNotFound}
-use Rattle.image.specs.Layout.{Whose, self, other, Head, last_updated_epoch, claimable_rewards, num_events, Seat, publishers, total_delegation, delta_delegation, publisher_stake_accounts, num_slash_events, delegation_fees, Slot, Share, Field, head, seat, slot, share, Words, size, read}
+use Rattle.image.specs.Layout.{Whose, self, other, last_updated_epoch, claimable_rewards, num_events, publishers, total_delegation, delta_delegation, publisher_stake_accounts, num_slash_events, delegation_fees, head, seat, slot, share, Words, size, read}
 
 -- ---- refusal 1
 

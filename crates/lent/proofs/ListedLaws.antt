@@ -19,13 +19,11 @@ use Rattle.positions.specs.Positions.{position_from, position_holds, positions_h
 use Rattle.image.specs.Layout.{Words}
 use Rattle.image.proofs.ListLaws.{lt_or_le}
 use Rattle.event_walk.specs.declared.EventAmounts.{EventAmounts}
-use Rattle.event_walk.specs.declared.span.Span.{Span}
 use Rattle.event_walk.specs.declared.span.Reach.{Reach}
 use Rattle.event_walk.specs.declared.span.Reach.TheVariants.{Draws, DoesNotFit}
 use Rattle.event_walk.specs.Walk.{walk_meets, drawn_at}
 use Rattle.event_walk.specs.Span.{ReachOf}
-use Rattle.event_walk.specs.Walked.{NewestOf, WalkedOf}
-use Rattle.event_walk.proofs.SpanLaws.{reach_draws, reach_unfit}
+use Rattle.event_walk.specs.Walked.{NewestOf}
 use Rattle.event_amounts.specs.Gathered.{GatheredOf}
 use Rattle.event_amounts.proofs.GatherLaws.{Gathering, Ahead, drawn_none, gather_start, gather_unfit, gather_walked, gather_past, gather_end}
 use Rattle.lent.specs.declared.gather.Walks.{Walks}
@@ -36,19 +34,6 @@ use Rattle.lent.proofs.RecordLaws.{record_holds_words, record_in_words}
 
 not_both : (b : Bool) → b ≡ false → b ≡ true → ⊥
 not_both b e t = let z : ◌≡◌ {A = ℕ} 0 1 = cc in omega arith
-
--- ---- one record's walk
-
-module _ (x : Walks) (p : Position) (start r : EventAmounts) (a : Reach)
-    (reaches : ReachOf x.newest.epochs x.newest.meets p x.unlocking_duration a) where
-  -- its state does not fit
-  pub record_unfit : a ≡ DoesNotFit → r.fits ≡ false → RecordWalked x p start r
-  record_unfit e q = record { reach = DoesNotFit; reaches = reach_unfit _ _ p _ a reaches e; walked = q }
-
-  -- it has walked
-  pub record_walked : (s : Span) → a ≡ Draws s
-      → WalkedOf x.newest.epochs x.newest.meets x.newest.reads s.amount s.first s.last start r → RecordWalked x p start r
-  record_walked s e q = record { reach = Draws s; reaches = reach_draws _ _ p _ a s reaches e; walked = q }
 
 -- ---- the first i records are as they should be
 
@@ -123,10 +108,6 @@ module _ (x : Walks) (i : ℕ) (p : Position) (before : Listed) where
   -- one in front of it was wrong
   pub stepped_wrong : before.holds ≡ false → SteppedOf x i p before before
   stepped_wrong e words l is h = wrong words before e (held_not words i (sym e ∙ h.holds))
-
-  -- it is one too many
-  pub stepped_past : (r : Listed) → r.holds ≡ false → 256 ≤ i → SteppedOf x i p before r
-  stepped_past r e m words l is h = wrong words r e (held_past words i m)
 
   -- it is wrong itself
   pub stepped_unheld : (r : Listed) → r.holds ≡ false → record_holds p ≡ false → SteppedOf x i p before r

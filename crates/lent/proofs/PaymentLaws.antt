@@ -2,14 +2,11 @@
 use mathlib.Core.Path.{◌≡◌, refl, sym, ap, ◌∙◌}
 use mathlib.Core.Bool.{Bool, true, false}
 use mathlib.Core.List.{List}
-use Prim.Native.Nat.{ℕ, ◌≤◌}
-use native.Mathlib.Omega.{arith}
+use Prim.Native.Nat.{ℕ}
 use Rattle.types.specs.Base.{Outcome, refused}
 use Rattle.types.specs.Refusals.{invalid_image, invalid_positions}
 use Rattle.image.specs.Layout.{read}
 use Rattle.image.specs.Seats.{checked_image}
-use Rattle.event_walk.specs.declared.newest.Newest.{Newest}
-use Rattle.event_walk.specs.Walked.{NewestOf}
 use Rattle.event_amounts.specs.Gathered.{GatheredOf}
 use Rattle.integrity_pool.specs.declared.payment.DelegationRecord.{DelegationRecord}
 use Rattle.integrity_pool.specs.declared.payment.Claim.{Claim}
@@ -19,17 +16,7 @@ use Rattle.lent.specs.declared.payment.LentClaim.{LentClaim}
 use Rattle.lent.specs.declared.gather.Walks.{Walks}
 use Rattle.lent.specs.declared.gather.Listed.{Listed}
 use Rattle.lent.specs.Listed.{ListedOf}
-use Rattle.lent.specs.Payment.{claim_of, payment_record, NewestIn, WalksOf, listed_call}
-
--- ---- the newest events
-
-module _ (P E : ℕ) (img : List ℕ) (from : ℕ) (n : Newest) where
-  -- an image that is refused has none
-  pub newest_none : n.meets ≤ 52 → n.reads ≤ 52 → checked_image P E img ≡ false → NewestIn P E img from n
-  newest_none few short h = record { few = few; short = short; newest = λ t. absurd (let z : false ≡ true = sym h ∙ t in let y : ◌≡◌ {A = ℕ} 0 1 = cc in omega arith) }
-
-  pub newest_read : NewestOf E (read P E img) from n → NewestIn P E img from n
-  newest_read h = record { few = h.few; short = h.short; newest = λ t. h }
+use Rattle.lent.specs.Payment.{claim_of, payment_record, WalksOf, listed_call}
 
 -- ---- 1, 4, and what the records gathered
 

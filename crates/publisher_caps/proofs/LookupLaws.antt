@@ -253,7 +253,7 @@ module _ (m : List ℕ) where
 
   pub cap_found : (rows key : ℕ) (r : Found) → r ≡ lookup m key 0 rows → cap_in m r ≡ cap_of m rows key
   unfolding cap_of
-  cap_found rows key r e = ap (cap_in m) e
+  cap_found rows _ r e = ap (cap_in m) e
 
   -- a key without a row has cap 0
   pub cap_without : (rows key : ℕ) → ((i : ℕ) → i < rows → key_at m i ≡ key → ⊥) → cap_of m rows key ≡ 0

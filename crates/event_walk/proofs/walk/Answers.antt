@@ -1,5 +1,4 @@
 use mathlib.Core.Path.{refl}
-use Prim.Native.Nat.{◌-◌}
 use Rattle.event_walk.proofs.AmountLaws.{added_none, added_more, walked_over}
 use native.Mathlib.Omega.{arith}
 use Rattle.event_walk.proofs.walk.Goals as goal
@@ -9,7 +8,7 @@ loop-k-init c = (
   omega arith,
   c.requires.1,
   refl,
-  added_none _ _ _ _ _ c.well_formed.1.1.1.1.1.1.0.1.1.1.0.1.0.1,
+  added_none _ _ _ _ _ (omega arith),
 )
 
 pub returns-then-units-held : goal.returns-then-units-held

@@ -1,4 +1,3 @@
-use Prim.Native.Nat.{◌-◌}
 use Rattle.event_walk.proofs.AmountLaws.{added_none, added_more, sum_fits}
 use native.Mathlib.Omega.{arith}
 use Rattle.event_walk.proofs.walk_fitting.Goals as goal

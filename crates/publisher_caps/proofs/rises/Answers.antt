@@ -3,7 +3,7 @@ use Rattle.publisher_caps.proofs.RowLaws.{rises_first, rises_zero, rises_row}
 use Rattle.publisher_caps.proofs.rises.Goals as goal
 
 pub returns-then-before-first : goal.returns-then-before-first
-returns-then-before-first c = rises_first _ _ _ _ (λ i. (c.shared_slice_known-1.given i).fits) c.requires.1 c.requires.2 (omega arith)
+returns-then-before-first c = rises_first _ _ _ _ (λ i. (c.type_inv.m i).fits) c.requires.1 c.requires.2 (omega arith)
 
 pub returns-then-i-eq0 : goal.returns-then-i-eq0
 returns-then-i-eq0 c = rises_zero _ _ _ c.if-i-eq0.true c.is_above.ensures

@@ -1,4 +1,3 @@
-use Prim.Native.Nat.{◌-◌}
 use mathlib.Core.Path.{◌∙◌}
 use Rattle.text.proofs.HexLaws.{stray, hex_more, hex_end}
 use borrow.Author.Rules.{rules}

@@ -1,4 +1,3 @@
-use Prim.Native.Nat.{◌-◌}
 use mathlib.Core.Path.{◌∙◌, refl, sym}
 use lib.ListN.{length-set}
 use Rattle.text.proofs.HexLaws.{bytes_odd, bytes_digits, bytes_all, spelled_not, spelled_count, stored_turn, stored_byte, stored_start, stored_all}

@@ -1,4 +1,3 @@
-use Prim.Native.Nat.{◌-◌}
 use mathlib.Core.Path.{◌∙◌}
 use Rattle.text.proofs.DecimalLaws.{low, high, large, further, none, some, ended}
 use borrow.Author.Rules.{rules}

@@ -1,4 +1,3 @@
-use Prim.Native.Nat.{◌-◌}
 use Rattle.text.proofs.KeyLaws.{word_room, word_byte, word_turn, word_start}
 use native.Mathlib.Omega.{arith}
 use Rattle.text.proofs.word.Goals as goal

@@ -6,7 +6,7 @@ pub overflow_add-sum : goal.overflow_add-sum
 overflow_add-sum c =
     let a = c.args in
     let r = c.from_delegation_data-data in
-    let h = sides_fit r.result a.cap.0 a.self-total.0 a.other-total.0 r.ensures in
+    let h = sides_fit r.result a.cap.0 a.self_total.0 a.other_total.0 r.ensures in
     omega arith
 
 pub returns : goal.returns

@@ -1,15 +1,14 @@
-use Prim.Native.Nat.{◌-◌}
-use mathlib.Core.Logic.{⊎_elim}
 use Rattle.advance_write.proofs.RingLaws.{events_none, events_turn, events_done}
 use borrow.Author.Rules.{rules}
 use native.Mathlib.Omega.{arith}
 use Rattle.advance_write.proofs.events.write_events.Goals as goal
+use Rattle.advance_write.proofs.events.write_events.Goals.{then-e-passed, else-e-passed}
 
 pub loop-k-init : goal.loop-k-init
 loop-k-init c = (
   search rules,
-  ⊎_elim (λ w. omega arith) (λ w. omega arith) c.if-e-passed.branch,
-  ⊎_elim (λ w. omega arith) (λ w. omega arith) c.if-e-passed.branch,
+  elim c.if-e-passed.branch [ then-e-passed w ↦ omega arith | else-e-passed w ↦ omega arith ],
+  elim c.if-e-passed.branch [ then-e-passed w ↦ omega arith | else-e-passed w ↦ omega arith ],
   search rules,
   events_none _ _ _,
 )

@@ -1,4 +1,3 @@
-use Prim.Native.Nat.{◌-◌}
 use Rattle.types.specs.BoolArray.{marked}
 use Rattle.image.specs.Layout.{read}
 use Rattle.image.proofs.HoldsLaws.{holds_itself}

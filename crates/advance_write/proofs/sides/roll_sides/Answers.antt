@@ -1,4 +1,4 @@
-use Prim.Native.Nat.{◌<◌, ◌-◌}
+use Prim.Native.Nat.{◌<◌}
 use Rattle.types.proofs.Below.{all_at}
 use Rattle.image.specs.Layout.{read}
 use Rattle.image.proofs.HoldsLaws.{holds_itself}

@@ -1,5 +1,4 @@
 use mathlib.Core.Path.{refl}
-use Prim.Native.Nat.{◌-◌}
 use native.Mathlib.Omega.{arith}
 use borrow.Author.Tests.{not-true, not-false}
 use Rattle.event_amounts.proofs.GatherLaws.{gather_start, gather_skip, reads_fit, gather_unfit, gather_walked, gather_past, gather_end}

@@ -1,5 +1,4 @@
 use mathlib.Core.Path.{refl}
-use Prim.Native.Nat.{◌-◌}
 use native.Mathlib.Nat.{mod-lt}
 use native.Mathlib.Omega.{arith}
 use lib.ListN.{length-set}
@@ -45,7 +44,7 @@ loop-k-preserved c =
       omega arith,
       simp length-set l.loop-k.invariant.3,
       epochs_more _ _ _ _ _ _ l.loop-k.invariant.4 (omega (arith, l.loop-k.invariant.3)) (epoch_at _ _ _ _ _ _ s c.event_at.ensures)
-          c.if-epoch-from.false (omega (arith, c.shared_slice_known-in-loop-k-1.given c.event_at.result)),
+          c.if-epoch-from.false (omega (arith, c.type_inv.pool c.event_at.result)),
     )
 
 pub returns : goal.returns

@@ -1,4 +1,3 @@
-use Prim.Native.Nat.{◌-◌}
 use Rattle.event_walk.proofs.SpanLaws.{activated_at, activated_none, activated_more}
 use native.Mathlib.Omega.{arith}
 use Rattle.event_walk.proofs.span.any_activated.Goals as goal

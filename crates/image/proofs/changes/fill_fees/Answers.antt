@@ -1,4 +1,3 @@
-use Prim.Native.Nat.{◌-◌}
 use Rattle.image.proofs.ChangeWrites.{fee_none, fee_turn, fees_written}
 use native.Mathlib.Omega.{arith}
 use Rattle.image.proofs.changes.fill_fees.Goals as goal

@@ -1,5 +1,4 @@
 use native.Mathlib.Omega.{arith}
-use Prim.Native.Nat.{◌-◌}
 use mathlib.Core.Path.{◌∙◌}
 use Rattle.text.proofs.ItemsLaws.{place_found, place_none, place_more}
 use Rattle.text.proofs.items.place.Goals as goal

@@ -1,4 +1,3 @@
-use Prim.Native.Nat.{◌-◌}
 use mathlib.Core.Path.{◌∙◌}
 use Rattle.text.proofs.ItemsLaws.{same_length, same_not, same_more, same_end}
 use native.Mathlib.Omega.{arith}

@@ -1,0 +1,66 @@
+// Slash events and slashes.
+ghost use Rattle.std.specs.Prelude.{◌≡◌};
+ghost use Rattle.image.specs.Changes.{changed_image};
+ghost use Rattle.integrity_pool.specs.Changes.{create_slash_event_call, created_in, slash_call, slashed_with};
+ghost use Rattle.pool_mirror.specs.Inputs.{key_of, slashing_of};
+ghost use Rattle.pool_mirror.specs.Answers.{number_of, one_answer, slash_record};
+
+// The publisher's next slash event. The answer: its epoch, the current one.
+#[unsafe(no_mangle)]
+pub extern "C" fn pool_mirror_create_slash_event(
+    pool: &mut [u64],
+    p: usize,
+    e: usize,
+    current_epoch: u64,
+    publisher: &[u64; 4],
+    index: u64,
+    answer: &mut [u64; 1],
+) -> u64
+    ensures value { result ≡ number_of (create_slash_event_call p e pool.old (key_of publisher.now) index) }
+    ensures pool_after { pool.new ≡ changed_image p e pool.old (create_slash_event_call p e pool.old (key_of publisher.now) index) }
+    ensures answer_after { answer.new ≡ one_answer answer.old (created_in current_epoch (create_slash_event_call p e pool.old (key_of publisher.now) index)) }
+{
+    pool_mirror::slash::pool_mirror_create_slash_event(
+        pool,
+        p,
+        e,
+        current_epoch,
+        publisher,
+        index,
+        answer,
+    )
+}
+
+// What a slash event took from an account leaves the publisher's totals, and the record moves past the event.
+#[unsafe(no_mangle)]
+pub extern "C" fn pool_mirror_slash(
+    pool: &mut [u64],
+    p: usize,
+    e: usize,
+    current_epoch: u64,
+    publisher: &[u64; 4],
+    account: &[u64; 4],
+    found: &mut [u64; 2],
+    index: u64,
+    event_epoch: u64,
+    locked: u64,
+    preunlocking: u64,
+) -> u64
+    ensures value { result ≡ number_of (slash_call p e pool.old (slashing_of current_epoch publisher.now account.now found.old index event_epoch locked preunlocking)) }
+    ensures pool_after { pool.new ≡ changed_image p e pool.old (slash_call p e pool.old (slashing_of current_epoch publisher.now account.now found.old index event_epoch locked preunlocking)) }
+    ensures found_after { found.new ≡ slash_record found.old (slashed_with (slashing_of current_epoch publisher.now account.now found.old index event_epoch locked preunlocking) (slash_call p e pool.old (slashing_of current_epoch publisher.now account.now found.old index event_epoch locked preunlocking))) }
+{
+    pool_mirror::slash::pool_mirror_slash(
+        pool,
+        p,
+        e,
+        current_epoch,
+        publisher,
+        account,
+        found,
+        index,
+        event_epoch,
+        locked,
+        preunlocking,
+    )
+}
