@@ -25,24 +25,20 @@ KINDS = {                           # what cargo is told, and by how many bytes 
 
 
 def newest():
-    """The time of the last change to the crates."""
+    """The time of the last change to the crates; what rt keeps of a crate, in its out/, is none."""
     times = [os.stat(os.path.join(ROOT, "crates.txt")).st_mtime]
-    for folder, _, names in os.walk(os.path.join(ROOT, "crates")):
-        times += [os.stat(os.path.join(folder, name)).st_mtime for name in [".", *names]]
+    for crate in os.scandir(os.path.join(ROOT, "crates")):
+        for folder, folders, names in os.walk(crate):
+            own = folder == crate.path
+            if own and "out" in folders:
+                folders.remove("out")
+            times += [os.stat(os.path.join(folder, name)).st_mtime for name in names + ["."] * (not own)]
     return max(times)
 
 
-def below(crate):
-    """The crates that it is made of, as crates.txt has them."""
-    with open(os.path.join(ROOT, "crates.txt")) as listed:
-        return next(needs.split() for name, needs in (line.split(":") for line in listed) if name == crate)
-
-
 def build_mirror():
-    """`rt check` proves crates beside each other, `rt staticlib` would one after the other."""
     if not os.path.exists(LIBRARY) or os.stat(LIBRARY).st_mtime <= newest():
-        for words in (["check", *below("pool_mirror")], ["staticlib", "pool_mirror"]):
-            subprocess.run(["rt", *words], cwd=ROOT, check=True, stdout=sys.stderr)
+        subprocess.run([os.path.join(ROOT, "build"), "library"], check=True, stdout=sys.stderr)
 
 
 def rename(library):

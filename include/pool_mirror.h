@@ -3,7 +3,7 @@
  * A function returns 0 where the call is accepted, else the refusal's number (1 to 27, listed below). On a refusal pool, record and answer are as they
  * were. What a function returns, answers and writes is proved for input of any content and length; what it can test, it doesn't ask of the caller.
  *
- * To link: target/staticlib/libpool_mirror.a (`rt staticlib pool_mirror`), and a memcpy and a memset, which any C library has. clients/ has two
+ * To link: target/staticlib/libpool_mirror.a (`./build library`), and a memcpy and a memset, which any C library has. clients/ has two
  * programs in C and in Rust that use it.
  *
  * What every caller keeps, since no function can test it:

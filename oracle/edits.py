@@ -25,7 +25,7 @@ def blanked(text):
 
     for found in re.finditer(r"//[^\n]*|^\s*(?:pub )?(?:ghost )?use [^;]*;|#\[[^\]]*\]|b?\"(?:[^\"\\]|\\.)*\"|b'(?:[^'\\]|\\.)'", text, re.M):
         blank(*found.span())
-    for found in re.finditer(r"\b(requires|ensures|ghost|invariant|decreases) \{|^\s*(?:pub )?(?:struct|enum) \w+ \{", "".join(out), re.M):
+    for found in re.finditer(r"\b(requires|ensures|ghost|invariant|decreases)(?: \w+)? \{|^\s*(?:pub )?(?:struct|enum) \w+ \{", "".join(out), re.M):
         depth, end = 1, found.end()
         while depth:
             depth += {"{": 1, "}": -1}.get(text[end], 0)

@@ -5,19 +5,15 @@ use Rattle.image.specs.Seats.{checked_image}
 use Rattle.image.proofs.SeatLaws.{checked_says}
 use Rattle.integrity_pool.proofs.ChangeLaws.{fee_1, fee_6, fee_done}
 use Rattle.integrity_pool.proofs.changes.update_delegation_fee.Goals as goal
-use Rattle.integrity_pool.proofs.changes.update_delegation_fee.Goals.{Else-not-right}
-
-right : (c : Else-not-right) → let a = c.args in checked_image a.p a.e a.pool.now ≡ true
-right c = sym c.checked-right.ensures ∙ c.if-not-right.false
 
 pub returns-then-not-right : goal.returns-then-not-right
 returns-then-not-right c = fee_1 _ _ _ _ (sym c.checked-right.ensures ∙ c.if-not-right.true)
 
 pub returns-then-fee-gt-FRAC_64_MULTIPLIER : goal.returns-then-fee-gt-FRAC_64_MULTIPLIER
-returns-then-fee-gt-FRAC_64_MULTIPLIER c = fee_6 _ _ _ _ (right c.before.before) (omega arith)
+returns-then-fee-gt-FRAC_64_MULTIPLIER c = fee_6 _ _ _ _ (sym c.checked-right.ensures ∙ c.if-not-right.false) (omega arith)
 
 pub set_delegation_fees-requires : goal.set_delegation_fees-requires
-set_delegation_fees-requires c = (checked_says _ _ _ (right c.before.before.before)).0
+set_delegation_fees-requires c = (checked_says _ _ _ (sym c.checked-right.ensures ∙ c.if-not-right.false)).0
 
 pub returns : goal.returns
-returns c = fee_done _ _ _ _ (right c.before.before.before.before.before.before) (omega arith) _ c.set_delegation_fees.ensures
+returns c = fee_done _ _ _ _ (sym c.checked-right.ensures ∙ c.if-not-right.false) (omega arith) _ c.set_delegation_fees.ensures
