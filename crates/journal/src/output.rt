@@ -14,7 +14,7 @@ pub struct Pen {
 
 impl Pen {
     pub fn new(to: Stdout) -> Self
-        ensures { (result.at ≡ 0) × (result.ok ≡ true) }
+        ensures { (result.to ≡ to) × (result.at ≡ 0) × (result.ok ≡ true) }
     {
         Self {
             to,
