@@ -1,5 +1,6 @@
-// The static library: one function for each call, with C's calling convention (include/pool_mirror.h). Each returns 0 or the refusal's number, and
-// a refused call leaves pool, record and answer as they were. Arguments stand in the order of the journal's fields.
+// The library's functions for C: one for each call, with C's calling convention (include/pool_mirror.h); `pool_mirror_c` makes the static library of
+// them. Each returns 0 or the refusal's number, and a refused call leaves pool, record and answer as they were. Arguments stand in the order of the
+// journal's fields.
 #![tactic(auto)]
 
 ghost use Rattle.std.specs.Prelude.{◌≡◌};
