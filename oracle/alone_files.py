@@ -373,15 +373,15 @@ class Files(Terminals):
         return self.verdict("save, to the root folder", got, "ok 29\nok\n" + told(f"save PATH: {WRITTEN}", 3), more=wrong)
 
     def failing_steps(self):
-        """A step that fails leaves no second name, and the old file unless the new one was renamed."""
+        """A step that fails leaves no second name, and the old file unless the new one was renamed. What closing says is not seen: the file is written through before."""
         old, new = image(1, 1, 5), image(1, 1, 9)
-        for fail, what in (("file", WRITTEN), ("close", WRITTEN), ("rename", WRITTEN), ("folder", THROUGH)):
+        for fail, what in (("file", WRITTEN), ("close", None), ("rename", WRITTEN), ("folder", THROUGH)):
             for terminal in (False, True):
                 self.clean()
                 self.put("pool", old)
-                left = new if fail == "folder" else old
+                left = new if fail in ("close", "folder") else old
                 got, notes = self.watched("new 1 1\nfresh 9\nsave pool\nnonzero\nload pool\nquit\n", fail, terminal)
-                out = "ok 29\nok\n" + told(f"save PATH: {what}", 3) + ("ok 0:8\nok 29\nok\n" if terminal else "")
+                out = "ok 29\nok\n" + (told(f"save PATH: {what}", 3) if what else "ok 29\n") + ("ok 0:8\nok 29\nok\n" if terminal or not what else "")
                 yield self.verdict(f"save, a step that fails: {fail}{', by a terminal' if terminal else ''}", got, out, more=self.files_wrong(pool=left) or (None if notes else "nothing was noted"))
         self.put("midway", filled(1_024, 52, 7))
         self.put("pool", old)

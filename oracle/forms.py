@@ -203,11 +203,20 @@ class Link(NamedTuple):
     name: bytes
 
 
+def is_text(name):
+    """Whether a file can have the name in the program: the standard library's paths are text."""
+    try:
+        name.decode()
+    except UnicodeDecodeError:
+        return False
+    return True
+
+
 def content_of(files, name):
     content = files.get(name, FOLDER)
     if isinstance(content, Link):
         return content_of(files, content.name)
-    if content is FOLDER or b"\0" in name:
+    if content is FOLDER or b"\0" in name or not is_text(name):
         raise Wrong(f"load PATH: {READ}")
     return content
 
@@ -215,7 +224,7 @@ def content_of(files, name):
 def save(files, name, content, pid):
     """By way of a second name, of which nothing is left; over a file or nothing."""
     second = name + b".%d.0.new" % pid
-    if b"\0" in name or len(second) > NAME or name in (b".", b"..") or not isinstance(files.get(name, b""), bytes):
+    if b"\0" in name or not is_text(name) or len(second) > NAME or name in (b".", b"..") or not isinstance(files.get(name, b""), bytes):
         raise Wrong(f"save PATH: {WRITTEN}")
     files[name] = content
 
