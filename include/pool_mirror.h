@@ -27,7 +27,7 @@
 #include <stddef.h>
 #include <stdint.h>
 
-#define POOL_MIRROR_VERSION "1.2.1"
+#define POOL_MIRROR_VERSION "1.2.2"
 
 #ifdef __cplusplus
 extern "C" {

@@ -1,48 +1,26 @@
 -- What the contracts here fix: any two results of the same inputs are the same, or agree in all that may be read. Assumes nothing.
-use Rattle.std.proofs.Common.{◌≡◌, ℕ, ◌+◌, ◌*◌, ◌<◌, ◌≤◌, Bool, true, false, ltb, List, get_or, sym, refl, ap, ◌∙◌, true≢false, arith, ltb-false, ltb-true}
-use Rattle.types.specs.Base.{word, Outcome, refused, accepted}
+use Rattle.std.proofs.Common.{◌≡◌, ℕ, ◌+◌, ◌*◌, ◌<◌, ◌≤◌, Bool, true, false, ltb, List, get_or, sym, refl, ap, ◌∙◌, ltb-false, ltb-true}
+use Rattle.types.specs.Base.{word}
 use Rattle.types.specs.BoolArray.{marked}
-use Rattle.types.proofs.Fixed.{by_return, wide_of_fixes, MarkWords, marks_fix}
+use Rattle.types.proofs.Fixed.{wide_of_fixes, MarkWords, marks_fix}
 use Rattle.publisher_caps.specs.Message.{rows_of}
 use Rattle.event.specs.Adjust.{Adjustment}
 use Rattle.image.specs.Layout.{Words}
-use Rattle.advance_plan.specs.declared.Given.{Given}
-use Rattle.advance_plan.specs.declared.due.Due.{Due}
-use Rattle.advance_plan.specs.declared.due.Due.TheVariants as due
 use Rattle.advance_plan.specs.declared.stake.EligibleSums.{EligibleSums}
-use Rattle.advance_plan.specs.declared.stake.EligibleSums.TheVariants.{Sums, DoesNotFit}
-use Rattle.advance_plan.specs.declared.plan.Planned.{Planned}
-use Rattle.advance_plan.specs.declared.plan.Planned.TheVariants as planned
 use Rattle.advance_plan.specs.declared.plan.AdvancePlan.{AdvancePlan}
+use Rattle.advance_plan.specs.declared.table.SeatTable.{SeatTable}
 use Rattle.advance_plan.specs.Rows.{Matched}
-use Rattle.advance_plan.specs.Stake.{Table, table_of, Shared, Tabled, SumsEligible}
-use Rattle.advance_plan.specs.Plan.{due_is, planned_is, PlannedAs, CappedAs}
+use Rattle.advance_plan.specs.Stake.{Sums, sums_as, Shared, Tabled, Capped}
+use Rattle.advance_plan.specs.Plan.{planned_as, Worked}
 
 -- ---- views
 
-abbrev due_answer : Outcome ℕ → Due
-due_answer (accepted n) = due.Passed n
-due_answer (refused k) = due.Refused k
-
-due_again : (a : Due) → due_answer (due_is a) ≡ a
-due_again (due.Passed n) = refl
-due_again (due.Refused k) = refl
-
--- two answers with the same epochs passed or the same refusal are the same
-pub due_is_fixes : (a b : Due) → due_is a ≡ due_is b → a ≡ b
-due_is_fixes = by_return due_is due_answer due_again
-
-abbrev planned_answer : Outcome Adjustment → Planned
-planned_answer (accepted a) = planned.Rewards (record { 0 = a.y }) (record { 0 = a.set_aside })
-planned_answer (refused k) = planned.Refused k
-
-planned_again : (a : Planned) → planned_answer (planned_is a) ≡ a
-planned_again (planned.Rewards y aside) = refl
-planned_again (planned.Refused k) = refl
-
--- a table is its two lists
-pub table_of_fixes : (first later first' later' : List ℕ) → table_of first later ≡ table_of first' later' → (first ≡ first') × (later ≡ later')
-table_of_fixes first later first' later' e = (ap (λ (t : Table). t.first) e, ap (λ (t : Table). t.later) e)
+-- two sums of words with the same numbers are the same
+pub sums_as_fixes : (a b : EligibleSums) → a.first.lo < word → a.later.lo < word → b.first.lo < word → b.later.lo < word → sums_as a ≡ sums_as b → a ≡ b
+sums_as_fixes a b la ma lb mb e =
+    let first = wide_of_fixes a.first b.first la lb (ap (λ (x : Sums). x.first) e) in
+    let later = wide_of_fixes a.later b.later ma mb (ap (λ (x : Sums). x.later) e) in
+    λ i. record { first = first i; later = later i }
 
 -- ---- what two results agree in
 
@@ -56,9 +34,9 @@ pub record SameShares (seats : ℕ) (a b : List ℕ) : Type 0 where
   pub other : (s : ℕ) → s < seats → get_or a (s * 3 + 1) 0 ≡ get_or b (s * 3 + 1) 0
   pub fee : (s : ℕ) → s < seats → get_or a (s * 3 + 2) 0 ≡ get_or b (s * 3 + 2) 0
 
-pub record SameTables (seats : ℕ) (t u : Table) : Type 0 where
-  pub first : SameShares seats t.first u.first
-  pub later : SameShares seats t.later u.later
+pub record SameTables {P W : ℕ} (seats : ℕ) (t u : SeatTable P W) : Type 0 where
+  pub first : SameShares seats t.first_shares u.first_shares
+  pub later : SameShares seats t.later_shares u.later_shares
 
 shared_same : {w : Words} {cap : ℕ → ℕ} {k seats : ℕ} {a b : List ℕ} → Shared w cap k seats a → Shared w cap k seats b → SameShares seats a b
 shared_same x y = record {
@@ -66,9 +44,6 @@ shared_same x y = record {
   other = λ s l. x.other s l ∙ sym (y.other s l);
   fee = λ s l. x.fee s l ∙ sym (y.fee s l);
 }
-
-tabled_same : {w : Words} {cap : ℕ → ℕ} {seats : ℕ} {t u : Table} → Tabled w cap seats t → Tabled w cap seats u → SameTables seats t u
-tabled_same x y = record { first = shared_same x.first y.first; later = shared_same x.later y.later }
 
 -- marks that are told below a number of rows, and are none from there on
 marks_same : (rows : ℕ) (f : ℕ → Bool) (a b : List ℕ) → MarkWords a → MarkWords b
@@ -88,54 +63,29 @@ pub matched_fixes : (w : Words) (m : List ℕ) (seats : ℕ) (caps words caps' w
 matched_fixes w m seats caps words caps' words' ma mb x y =
     (λ s l. x.cap s l ∙ sym (y.cap s l), marks_same (rows_of m) _ words words' ma mb x.mark y.mark x.rest y.rest)
 
--- the sums' lower words are words
-abbrev pub InWords : EligibleSums → Type 0
-InWords (Sums first later) = (first.lo < word) × (later.lo < word)
-InWords DoesNotFit = Unit {0}
+-- the seats' words of both lists; words behind them are open
+pub tabled_fixes : {P W : ℕ} (w : Words) (cap : ℕ → ℕ) (seats : ℕ) (t u : SeatTable P W) → Tabled w cap seats t → Tabled w cap seats u → SameTables seats t u
+tabled_fixes w cap seats t u x y = record { first = shared_same x.first y.first; later = shared_same x.later y.later }
 
--- the answer, and the seats' words of both lists where all seats roll; words behind them are open
-pub sums_eligible_fixes : (w : Words) (cap : ℕ → ℕ) (seats : ℕ) (t u : Table) (a b : EligibleSums) → InWords a → InWords b
-    → SumsEligible w cap seats t a → SumsEligible w cap seats u b → (a ≡ b) × ((a ≡ DoesNotFit → ⊥) → SameTables seats t u)
-unfolding SumsEligible
-sums_eligible_fixes w cap seats t u (Sums f l) (Sums f' l') a b x y =
-    let first = wide_of_fixes f f' a.0 b.0 (x.first_sum ∙ sym y.first_sum) in
-    let later = wide_of_fixes l l' a.1 b.1 (x.later_sum ∙ sym y.later_sum) in
-    (λ i. Sums (first i) (later i), λ n. tabled_same x.table y.table)
-sums_eligible_fixes w cap seats t u (Sums f l) DoesNotFit a b x y = absurd (true≢false (sym x.rolls ∙ y))
-sums_eligible_fixes w cap seats t u DoesNotFit (Sums f l) a b x y = absurd (true≢false (sym y.rolls ∙ x))
-sums_eligible_fixes w cap seats t u DoesNotFit DoesNotFit a b x y = (refl, λ n. absurd (n refl))
+-- the caps of the seats; others are open
+pub capped_fixes : (w : Words) (m : List ℕ) (seats : ℕ) (caps caps' : List ℕ) → Capped w m seats caps → Capped w m seats caps' → SameCaps seats caps caps'
+capped_fixes w m seats caps caps' x y s l = x.cap s l ∙ sym (y.cap s l)
 
--- the answer, and where it is accepted the whole plan and the seats' words of both lists; all else is open
-pub planned_as_fixes : (P E : ℕ) (img m : List ℕ) (g : Given) (every_rolled : Bool) (t u : Table) (a b : AdvancePlan)
-    → MarkWords a.marks.words → MarkWords b.marks.words
-    → PlannedAs P E img m g every_rolled t a → PlannedAs P E img m g every_rolled u b
-    → (a.planned ≡ b.planned) × ((x : Adjustment) → planned_is a.planned ≡ accepted x → (a ≡ b) × SameTables a.seats t u)
-planned_as_fixes P E img m g every_rolled t u a b ma mb p q = (planned, λ x e. (whole x e, tables x e))
+-- with the figures, which have an equation of their own, the whole plan, and the seats' words of both lists
+pub worked_fixes : {Q W : ℕ} (P : ℕ) (w : Words) (m : List ℕ) (epoch : ℕ) (t u : SeatTable Q W) (a b : AdvancePlan)
+    → MarkWords a.marks.words → MarkWords b.marks.words → planned_as a ≡ planned_as b
+    → Worked P w m a t epoch → Worked P w m b u epoch → (a ≡ b) × SameTables a.seats t u
+worked_fixes P w m epoch t u a b ma mb e x y = (whole, tables)
   where
-    same : planned_is a.planned ≡ planned_is b.planned
-    same = p.answer ∙ sym q.answer
+    seats : a.seats ≡ b.seats
+    seats = x.seats_is ∙ sym y.seats_is
 
-    planned : a.planned ≡ b.planned
-    planned = by_return planned_is planned_answer planned_again a.planned b.planned same
+    tables : SameTables a.seats t u
+    tables = tabled_fixes w _ a.seats t u x.table (rw seats y.table)
 
-    seats : (x : Adjustment) → planned_is a.planned ≡ accepted x → a.seats ≡ b.seats
-    seats x e = (p.worked x e).seats_is ∙ sym (q.worked x (sym same ∙ e)).seats_is
-
-    tables : (x : Adjustment) → planned_is a.planned ≡ accepted x → SameTables a.seats t u
-    tables x e = tabled_same (p.worked x e).table (rw (seats x e) (q.worked x (sym same ∙ e)).table)
-
-    whole : (x : Adjustment) → planned_is a.planned ≡ accepted x → a ≡ b
-    whole x e =
-        let y = p.worked x e in
-        let z = q.worked x (sym same ∙ e) in
-        let counted : a.seats ≡ b.seats = seats x e in
-        let rows : a.rows ≡ b.rows = y.rows_is ∙ sym z.rows_is in
-        let marks =
-        marks_same a.rows _ a.marks.words b.marks.words ma mb y.marks
-        (λ j l. z.marks j (omega arith) ∙ sym (rw counted refl)) y.unmarked (λ j l. z.unmarked j (omega arith)) in
-        λ i. record { planned = planned i; seats = counted i; rows = rows i; marks = record { words = marks i } }
-
--- the caps of the seats where the answer is accepted; others are open
-pub capped_as_fixes : (P E : ℕ) (img m caps caps' : List ℕ) (r : AdvancePlan) → CappedAs P E img m caps r → CappedAs P E img m caps' r
-    → (a : Adjustment) → planned_is r.planned ≡ accepted a → SameCaps r.seats caps caps'
-capped_as_fixes P E img m caps caps' r x y a e s l = x.cap a e s l ∙ sym (y.cap a e s l)
+    whole : a ≡ b
+    whole =
+        let amount = ap (λ (v : Adjustment). v.y) e in
+        let aside = ap (λ (v : Adjustment). v.set_aside) e in
+        let marks = marks_same (rows_of m) _ a.marks.words b.marks.words ma mb x.marks (rw seats y.marks) x.unmarked y.unmarked in
+        λ i. record { y = record { 0 = amount i }; set_aside = record { 0 = aside i }; seats = seats i; marks = record { words = marks i } }

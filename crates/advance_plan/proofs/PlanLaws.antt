@@ -1,70 +1,25 @@
 -- The parts of a plan, one law for each way out of the code. Assumes nothing.
-use Rattle.std.proofs.Common.{◌≡◌, ℕ, zero, suc, ◌+◌, ◌-◌, ◌*◌, ◌/◌, ◌<◌, ◌≤◌, Bool, true, false, not, eqb, ltb, leb, List, get_or, sym, refl, ap, ◌∙◌, subst, ap₂, arith, ltb-false, ltb-true, eq-eqb, ne_eqb, le-leb, leb-false}
+use Rattle.std.proofs.Common.{◌≡◌, ℕ, zero, suc, ◌+◌, ◌-◌, ◌*◌, ◌/◌, ◌<◌, ◌≤◌, Bool, true, false, not, eqb, ltb, leb, List, get_or, sym, refl, ap, ◌∙◌, subst, ap₂, arith, ltb-false, ltb-true, le-leb, leb-false}
 use borrow.Author.Tests.{lt-leb}
-use Rattle.std.specs.Prelude.{if◌then◌else◌}
+use Rattle.std.specs.Prelude.{Option, Some, None, if◌then◌else◌}
 use Rattle.types.specs.Base.{word, half, Outcome, refused, accepted, map_outcome, sum_below, all_below}
 use Rattle.types.specs.Refusals.{unverified_publisher_caps, pool_data_already_up_to_date, outdated_publisher_caps, does_not_fit}
-use Rattle.types.specs.Wide.{wide_of, fit_of}
-use Rattle.types.specs.declared.bool_array.BoolArray.{BoolArray}
-use Rattle.types.specs.declared.wide.Wide.{Wide}
-use Rattle.types.specs.declared.wide.Fit.{Fit}
-use Rattle.types.specs.declared.wide.Fit.TheVariants as fit
+use Rattle.types.specs.Wide.{fit_of}
 use Rattle.types.proofs.Below.{sum_same}
-use Rattle.publisher_caps.specs.Message.{time_of, rows_of}
+use Rattle.publisher_caps.specs.Message.{time_of}
 use Rattle.event.specs.Adjust.{Adjustment, adjust_of}
 use Rattle.event.proofs.AdjustLaws.{adjust_keeps}
-use Rattle.image.specs.Layout.{last_updated_epoch, claimable_rewards, num_events, head, Words, read}
+use Rattle.image.specs.Layout.{last_updated_epoch, claimable_rewards, num_events, head, Words}
 use Rattle.image.specs.Seats.{seats_of}
-use Rattle.image.proofs.SeatLaws.{seats_le, read_at}
 use Rattle.advance_plan.specs.declared.Given.{Given}
-use Rattle.advance_plan.specs.declared.due.Due.{Due}
-use Rattle.advance_plan.specs.declared.due.Due.TheVariants as due
 use Rattle.advance_plan.specs.declared.plan.AdvancePlan.{AdvancePlan}
-use Rattle.advance_plan.specs.declared.plan.Planned.{Planned}
-use Rattle.advance_plan.specs.declared.plan.Planned.TheVariants as planned
-use Rattle.advance_plan.specs.declared.stake.EligibleSums.{EligibleSums}
-use Rattle.advance_plan.specs.declared.stake.EligibleSums.TheVariants as eligible-sums
+use Rattle.advance_plan.specs.declared.table.SeatTable.{SeatTable}
 use Rattle.advance_plan.specs.Advance.{seat_cap, seat_rolls, eligible_in, ratio_in, eligible_sum, forecast_sum, passed_of, adjustment_of, answer_with, advance_of, forecast_of}
-use Rattle.advance_plan.specs.Stake.{Table, Tabled, Summed, SumsEligible}
+use Rattle.advance_plan.specs.Stake.{Sums, sums_of, Tabled}
 use Rattle.advance_plan.specs.Rows.{Matched}
-use Rattle.advance_plan.specs.Plan.{Ready, ReadyAfter, due_of, due_is, sum_of, adjust_fit, adjust_sums, Worked, planned_is, PlannedAs, CappedAs}
+use Rattle.advance_plan.specs.Plan.{due_of, sum_of, adjust_fit, planned_of, planned_as, Worked}
 
 -- ---- whether an advance is due
-
-module _ (last time : ℕ) (g : Given) where
-  pub due_unverified : (g.is_verified ≡ 1 → ⊥) → refused unverified_publisher_caps ≡ due_of last time g
-  unfolding due_of
-  due_unverified h = rw (ne_eqb g.is_verified 1 h)
-
-  module _ (verified : g.is_verified ≡ 1) where
-    pub due_up_to_date : g.current_epoch ≤ last → refused pool_data_already_up_to_date ≡ due_of last time g
-    unfolding due_of
-    due_up_to_date h = rw (eq-eqb g.is_verified 1 verified, le-leb g.current_epoch last h)
-
-    module _ (later : last < g.current_epoch) where
-      pub due_negative : half ≤ time → refused does_not_fit ≡ due_of last time g
-      unfolding due_of
-      due_negative h = rw (eq-eqb g.is_verified 1 verified, lt-leb g.current_epoch last later, le-leb half time h)
-
-      pub due_outdated : time < half → (g.current_epoch ≡ time / g.epoch_duration → ⊥) → refused outdated_publisher_caps ≡ due_of last time g
-      unfolding due_of
-      due_outdated a h =
-          rw (
-            eq-eqb g.is_verified 1 verified,
-            lt-leb g.current_epoch last later,
-            lt-leb half time a,
-            ne_eqb g.current_epoch (time / g.epoch_duration) h,
-          )
-
-      pub due_passed : time < half → g.current_epoch ≡ time / g.epoch_duration → accepted (g.current_epoch - last) ≡ due_of last time g
-      unfolding due_of
-      due_passed a h =
-          rw (
-            eq-eqb g.is_verified 1 verified,
-            lt-leb g.current_epoch last later,
-            lt-leb half time a,
-            eq-eqb g.current_epoch (time / g.epoch_duration) h,
-          )
 
 -- the first four refusals, and what comes behind them
 abbrev chain : {A : Type 0} → (b1 b2 b3 b4 : Bool) → Outcome A → Outcome A
@@ -123,25 +78,12 @@ module _ (P : ℕ) (w : Words) (m : List ℕ) (g : Given) where
 -- ---- item 5, for a sum that is a word or past one
 
 module _ (n passed claimable : ℕ) (g : Given) where
-  pub adjust_count : (r : Fit) (sum : ℕ) → r ≡ fit.Word sum → half ≤ n + passed → refused does_not_fit ≡ adjust_fit r n passed claimable g
-  unfolding adjust_fit
-  adjust_count r sum q h = rw (q, le-leb half (n + passed) h)
-
-  pub adjust_word : (r : Fit) (sum : ℕ) (o : Outcome Adjustment) → r ≡ fit.Word sum → n + passed < half
-      → o ≡ adjust_of sum g.y claimable g.pool_reward_custody_balance → o ≡ adjust_fit r n passed claimable g
-  unfolding adjust_fit
-  adjust_word r sum o q h e = rw (q, lt-leb half (n + passed) h) e
-
-  pub adjust_past : (r : Fit) → r ≡ fit.DoesNotFit → refused does_not_fit ≡ adjust_fit r n passed claimable g
-  unfolding adjust_fit
-  adjust_past r q = rw q
-
   -- an accepted one has a count that fits, and an amount that fits on top of claimable
-  adjust_says : (r : Fit) (a : Adjustment) → adjust_fit r n passed claimable g ≡ accepted a
+  adjust_says : (r : Option ℕ) (a : Adjustment) → adjust_fit r n passed claimable g ≡ accepted a
       → (n + passed < half) × (claimable + a.set_aside ≤ g.pool_reward_custody_balance)
   unfolding adjust_fit
-  adjust_says fit.DoesNotFit a e = let z : ◌≡◌ {A = ℕ} 0 1 = cc in absurd (omega arith)
-  adjust_says (fit.Word sum) a e = go (leb half (n + passed)) refl e
+  adjust_says None a e = let z : ◌≡◌ {A = ℕ} 0 1 = cc in absurd (omega arith)
+  adjust_says (Some sum) a e = go (leb half (n + passed)) refl e
     where
       go : (b : Bool) → leb half (n + passed) ≡ b → (if b then refused does_not_fit else adjust_of sum g.y claimable g.pool_reward_custody_balance) ≡ accepted a
           → (n + passed < half) × (claimable + a.set_aside ≤ g.pool_reward_custody_balance)
@@ -187,173 +129,119 @@ caps_same w cap cap' seats k h = sum_same _ _ seats (λ s l. rw (h s l))
 
 -- ---- the plan, from what is due
 
--- a refused plan says nothing more
-refused_works : {A : Type 0} (k : ℕ) (a : Adjustment) → refused k ≡ accepted a → A
-refused_works k a e = let z : ◌≡◌ {A = ℕ} 0 1 = cc in absurd (omega arith)
-
 fits_rest : (P : ℕ) (w : Words) (g : Given) (sum : ℕ) → all_below (seats_of P w) (seat_rolls w) ≡ true
     → adjust_fit (fit_of sum) (w (head num_events)) (passed_of w g) (w (head claimable_rewards)) g ≡ rest P w g sum
 unfolding fit_of adjust_fit
 fits_rest P w g sum e = rw e (go (ltb sum word) refl)
   where
     go : (b : Bool) → ltb sum word ≡ b
-        → adjust_fit (if b then fit.Word sum else fit.DoesNotFit) (w (head num_events)) (passed_of w g) (w (head claimable_rewards)) g ≡ (if leb word sum then refused does_not_fit
+        → adjust_fit (if b then Some sum else None) (w (head num_events)) (passed_of w g) (w (head claimable_rewards)) g ≡ (if leb word sum then refused does_not_fit
         else if leb half (w (head num_events) + passed_of w g) then refused does_not_fit
         else adjust_of sum g.y (w (head claimable_rewards)) g.pool_reward_custody_balance)
     go true q = rw (lt-leb word sum (ltb-true sum word q))
     go false q = rw (le-leb word sum (ltb-false sum word q))
 
-module _ (P E : ℕ) (img m : List ℕ) (g : Given) (passed : ℕ) (z : ReadyAfter P E img m g passed) (every_rolled : Bool)
-    (seats rows : ℕ) (es : seats ≡ seats_of P (read P E img)) (er : rows ≡ rows_of m)
-    (caps : List ℕ) (marks : BoolArray) (mt : Matched (read P E img) m seats caps marks.words)
-    (t : Table) (sums : EligibleSums) (su : SumsEligible (read P E img) (λ s. get_or caps s 0) seats t sums)
-  where
-    abbrev v : Words
-    v = read P E img
+-- an answer by the words that were read, as one by the pool's and the message's
+pub due_read : {o : Outcome ℕ} (last last' time time' : ℕ) (g : Given) → o ≡ due_of last time g → last ≡ last' → time ≡ time' → o ≡ due_of last' time' g
+due_read last last' time time' g h a b = h ∙ ap₂ (λ (l t : ℕ). due_of l t g) a b
 
-    abbrev answer : Outcome Adjustment
-    answer = adjustment_of P v m g (sum_of every_rolled v (seat_cap v m) (seats_of P v) (passed_of v g))
+pub adjust_read : {o : Outcome Adjustment} (r : Option ℕ) (n n' passed claimable claimable' : ℕ) (g : Given) → o ≡ adjust_fit r n passed claimable g → n ≡ n' → claimable ≡ claimable'
+    → o ≡ adjust_fit r n' passed claimable' g
+adjust_read r n n' passed claimable claimable' g h a b = h ∙ ap₂ (λ (x y : ℕ). adjust_fit r x passed y g) a b
 
+-- what the seats' sums say
+module _ (w : Words) (cap : ℕ → ℕ) (seats : ℕ) where
+  sums_refused : (n : ℕ) → refused n ≡ sums_of w cap seats → (all_below seats (seat_rolls w) ≡ false) × (n ≡ does_not_fit)
+  unfolding sums_of
+  sums_refused n e = go (all_below seats (seat_rolls w)) e
+    where
+      go : (b : Bool) → ◌≡◌ {A = Outcome Sums} (refused n) (if b then accepted (record { first = sum_below seats (eligible_in w cap 0); later = sum_below seats (eligible_in w cap 1) }) else refused does_not_fit)
+          → (b ≡ false) × (n ≡ does_not_fit)
+      go true h = let z : ◌≡◌ {A = ℕ} 0 1 = cc in absurd (omega arith)
+      go false h = (refl, cc)
+
+  sums_accepted : (x : Sums) → accepted x ≡ sums_of w cap seats
+      → (all_below seats (seat_rolls w) ≡ true) × (x.first ≡ sum_below seats (eligible_in w cap 0)) × (x.later ≡ sum_below seats (eligible_in w cap 1))
+  unfolding sums_of
+  sums_accepted x e = go (all_below seats (seat_rolls w)) e
+    where
+      go : (b : Bool) → accepted x ≡ (if b then accepted (record { first = sum_below seats (eligible_in w cap 0); later = sum_below seats (eligible_in w cap 1) }) else refused does_not_fit)
+          → (b ≡ true) × (x.first ≡ sum_below seats (eligible_in w cap 0)) × (x.later ≡ sum_below seats (eligible_in w cap 1))
+      go true h =
+          let z : x ≡ record { first = sum_below seats (eligible_in w cap 0); later = sum_below seats (eligible_in w cap 1) } = cc in
+          (refl, ap (λ (y : Sums). y.first) z, ap (λ (y : Sums). y.later) z)
+      go false h = let z : ◌≡◌ {A = ℕ} 0 1 = cc in absurd (omega arith)
+
+pub due_refused : (every_rolled : Bool) (P : ℕ) (w : Words) (m : List ℕ) (g : Given) (n : ℕ) → refused n ≡ due_of (w (head last_updated_epoch)) (time_of m) g → refused n ≡ planned_of every_rolled P w m g
+unfolding planned_of
+due_refused every_rolled P w m g n e = due_refuses P w m g n _ (sym e)
+
+module _ (every_rolled : Bool) (P : ℕ) (w : Words) (m : List ℕ) (g : Given) (passed : ℕ) (e : accepted passed ≡ due_of (w (head last_updated_epoch)) (time_of m) g) where
+  pub due_some : 1 ≤ passed
+  due_some = passed_some P w m g passed (sym e)
+
+  module _ (seats : ℕ) (es : seats ≡ seats_of P w) (caps marks : List ℕ) (mt : Matched w m seats caps marks) where
     -- a seat does not roll
-    pub plan_not : sums ≡ eligible-sums.DoesNotFit
-        → PlannedAs P E img m g every_rolled t (record { planned = planned.Refused does_not_fit; seats = seats; rows = rows; marks = marks })
-    unfolding SumsEligible
-    plan_not q =
-        let f : all_below (seats_of P v) (seat_rolls v) ≡ false = subst (λ (n : ℕ). all_below n (seat_rolls v) ≡ false) es (subst (SumsEligible v (λ s. get_or caps s 0) seats t) q su) in
-        record { answer = rw f refl ∙ (due_says P v m g passed z.due _).2; worked = λ a e. refused_works _ a e }
+    pub rolls_not : (n : ℕ) → refused n ≡ sums_of w (λ (s : ℕ). get_or caps s 0) seats → refused n ≡ planned_of every_rolled P w m g
+    unfolding planned_of
+    rolls_not n h =
+        let x = sums_refused w (λ (s : ℕ). get_or caps s 0) seats n h in
+        let f : all_below (seats_of P w) (seat_rolls w) ≡ false = subst (λ (k : ℕ). all_below k (seat_rolls w) ≡ false) es x.0 in
+        let q = (due_says P w m g passed (sym e) (sum_of every_rolled w (seat_cap w m) (seats_of P w) (passed_of w g))).2 in
+        rw x.1 (rw f at q)
 
-    module _ (first later : Wide) (q : sums ≡ eligible-sums.Sums first later) where
-      summed : Summed v (λ s. get_or caps s 0) seats t (wide_of first) (wide_of later)
-      unfolding SumsEligible
-      summed = subst (SumsEligible v (λ s. get_or caps s 0) seats t) q su
-
-      total_is : (if every_rolled then wide_of later else wide_of first) + (passed - 1) * wide_of later ≡ sum_of every_rolled v (seat_cap v m) (seats_of P v) (passed_of v g)
-      total_is =
-          sum_parts v (seat_cap v m) seats every_rolled _ _ passed (passed_some P v m g passed z.due)
-          (summed.first_sum ∙ caps_same v _ (seat_cap v m) seats 0 mt.cap) (summed.later_sum ∙ caps_same v _ (seat_cap v m) seats 1 mt.cap)
-          ∙ ap₂ (sum_of every_rolled v (seat_cap v m)) es (passed_is P v m g passed z.due)
-
-      tabled : Tabled v (seat_cap v m) seats t
-      unfolding ratio_in
-      tabled = record {
-        first = record {
-          self = λ s l. rw (← mt.cap s l) (summed.table.first.self s l);
-          other = λ s l. rw (← mt.cap s l) (summed.table.first.other s l);
-          fee = summed.table.first.fee;
-        };
-        later = record {
-          self = λ s l. rw (← mt.cap s l) (summed.table.later.self s l);
-          other = λ s l. rw (← mt.cap s l) (summed.table.later.other s l);
-          fee = summed.table.later.fee;
-        };
-      }
-
-      module _ (n claimable : ℕ) (en : n ≡ v (head num_events)) (ec : claimable ≡ v (head claimable_rewards))
-          (r : Fit) (ef : r ≡ fit_of ((if every_rolled then wide_of later else wide_of first) + (passed - 1) * wide_of later))
-          (o : Outcome Adjustment) (eo : o ≡ adjust_fit r n passed claimable g)
-        where
-          answer_is : o ≡ answer
-          answer_is =
-              let rolls : all_below (seats_of P v) (seat_rolls v) ≡ true = subst (λ (n : ℕ). all_below n (seat_rolls v) ≡ true) es summed.rolls in
-              eo ∙ rw (ef, total_is, en, ec, passed_is P v m g passed z.due) (fits_rest P v g _ rolls) ∙ (due_says P v m g passed z.due _).2
-
-          all_worked : g.pool_reward_custody_balance < word → (a : Adjustment) → o ≡ accepted a → Worked P E img m seats rows marks.words t g.current_epoch a.set_aside
-          all_worked small a ea =
-              let x = adjust_says n passed claimable g r a (sym eo ∙ ea) in
-              record {
-                sized = z.ready.sized;
-                whole = z.ready.whole;
-                rows_is = er;
-                seats_is = es;
-                rolls = summed.rolls;
-                table = tabled;
-                room = summed.room;
-                marks = λ j l. mt.mark j (omega arith);
-                unmarked = λ j l. mt.rest j (omega arith);
-                later = due_later P v m g passed z.due;
-                count = omega (arith, passed_is P v m g passed z.due);
-                covers = omega arith;
-              }
-
-      -- all seats roll
-      pub plan_rolled : (n claimable : ℕ) → n ≡ v (head num_events) → claimable ≡ v (head claimable_rewards)
-          → (r : Fit) → r ≡ fit_of ((if every_rolled then wide_of later else wide_of first) + (passed - 1) * wide_of later)
-          → (p : Planned) → planned_is p ≡ adjust_fit r n passed claimable g → g.pool_reward_custody_balance < word
-          → PlannedAs P E img m g every_rolled t (record { planned = p; seats = seats; rows = rows; marks = marks })
-      plan_rolled n claimable en ec r ef p ep small = record {
-        answer = answer_is n claimable en ec r ef (planned_is p) ep;
-        worked = λ a e. all_worked n claimable en ec r ef (planned_is p) ep small a e;
-      }
-
-    -- either way
-    pub plan_sums : (n claimable : ℕ) → n ≡ v (head num_events) → claimable ≡ v (head claimable_rewards) → (p : Planned)
-        → planned_is p ≡ adjust_sums every_rolled sums n passed claimable g → g.pool_reward_custody_balance < word
-        → (r : AdvancePlan) → r ≡ record { planned = p; seats = seats; rows = rows; marks = marks } → PlannedAs P E img m g every_rolled t r
-    unfolding adjust_sums
-    plan_sums n claimable en ec p ep small r er' = subst (PlannedAs P E img m g every_rolled t) (sym er') (go sums refl)
+    module _ (sums : Sums) (h : accepted sums ≡ sums_of w (λ (s : ℕ). get_or caps s 0) seats)
+        (r : Option ℕ) (ef : r ≡ fit_of ((if every_rolled then sums.later else sums.first) + (passed - 1) * sums.later))
       where
-        go : (s : EligibleSums) → sums ≡ s → PlannedAs P E img m g every_rolled t (record { planned = p; seats = seats; rows = rows; marks = marks })
-        go (eligible-sums.Sums first later) q =
-            plan_rolled first later q n claimable en ec _ refl p (ep ∙ ap (λ (s : EligibleSums). adjust_sums every_rolled s n passed claimable g) q) small
-        go eligible-sums.DoesNotFit q =
-            let e : planned_is p ≡ refused does_not_fit = ep ∙ ap (λ (s : EligibleSums). adjust_sums every_rolled s n passed claimable g) q in
-            record { answer = e ∙ (plan_not q).answer; worked = λ a k. refused_works _ a (sym e ∙ k) }
+        total_is : (if every_rolled then sums.later else sums.first) + (passed - 1) * sums.later ≡ sum_of every_rolled w (seat_cap w m) (seats_of P w) (passed_of w g)
+        total_is =
+            let x = sums_accepted w (λ (s : ℕ). get_or caps s 0) seats sums h in
+            sum_parts w (seat_cap w m) seats every_rolled _ _ passed due_some
+            (x.1 ∙ caps_same w _ (seat_cap w m) seats 0 mt.cap) (x.2 ∙ caps_same w _ (seat_cap w m) seats 1 mt.cap)
+            ∙ ap₂ (sum_of every_rolled w (seat_cap w m)) es (passed_is P w m g passed (sym e))
 
--- a refused plan says nothing of the caps, and else they are those that the rows were matched with
-pub refused_capped : {P E : ℕ} {img m caps : List ℕ} (k seats rows : ℕ) (marks : BoolArray) (r : AdvancePlan)
-    → r ≡ record { planned = planned.Refused k; seats = seats; rows = rows; marks = marks } → CappedAs P E img m caps r
-refused_capped k seats rows marks r e = record { cap = λ a h. refused_works k a (sym (ap (λ (x : AdvancePlan). planned_is x.planned) e) ∙ h) }
+        -- all seats roll
+        pub sums_planned : adjust_fit r (w (head num_events)) passed (w (head claimable_rewards)) g ≡ planned_of every_rolled P w m g
+        unfolding planned_of
+        sums_planned =
+            let rolls : all_below (seats_of P w) (seat_rolls w) ≡ true = subst (λ (k : ℕ). all_below k (seat_rolls w) ≡ true) es (sums_accepted w (λ (s : ℕ). get_or caps s 0) seats sums h).0 in
+            rw (ef, total_is, passed_is P w m g passed (sym e)) (fits_rest P w g _ rolls) ∙ (due_says P w m g passed (sym e) _).2
 
-pub matched_capped : {P E : ℕ} {img m : List ℕ} {seats : ℕ} {caps words : List ℕ} → Matched (read P E img) m seats caps words
-    → (p : Planned) (rows : ℕ) (marks : BoolArray) (r : AdvancePlan) → r ≡ record { planned = p; seats = seats; rows = rows; marks = marks }
-    → CappedAs P E img m caps r
-matched_capped mt p rows marks r e = record { cap = λ a h s l. mt.cap s (omega (arith, ap (λ (x : AdvancePlan). x.seats) e)) }
-
--- ---- the sums' way to an answer
-
-module _ (every_rolled : Bool) (sums : EligibleSums) (n passed claimable : ℕ) (g : Given) where
-  pub sums_not : sums ≡ eligible-sums.DoesNotFit → refused does_not_fit ≡ adjust_sums every_rolled sums n passed claimable g
-  unfolding adjust_sums
-  sums_not q = sym (ap (λ (s : EligibleSums). adjust_sums every_rolled s n passed claimable g) q)
-
-  pub sums_fit : (first later : Wide) → sums ≡ eligible-sums.Sums first later
-      → (f : Fit) → f ≡ fit_of ((if every_rolled then wide_of later else wide_of first) + (passed - 1) * wide_of later)
-      → (n' claimable' : ℕ) → n' ≡ n → claimable' ≡ claimable → (o : Outcome Adjustment) → o ≡ adjust_fit f n' passed claimable' g
-      → o ≡ adjust_sums every_rolled sums n passed claimable g
-  unfolding adjust_sums
-  sums_fit first later q f ef n' claimable' en ec o e =
-      e ∙ ap₂ (λ (x y : ℕ). adjust_fit f x passed y g) en ec ∙ ap (λ (x : Fit). adjust_fit x n passed claimable g) ef
-      ∙ sym (ap (λ (s : EligibleSums). adjust_sums every_rolled s n passed claimable g) q)
-
--- ---- what the calls on the way ask for
-
-pub enough_seats : (P : ℕ) (w : Words) (seats : ℕ) → seats ≡ seats_of P w → seats ≤ P
-enough_seats P w seats e = omega (arith, seats_le P w)
-
-pub some_passed : {P E : ℕ} {img m : List ℕ} {g : Given} {passed : ℕ} → ReadyAfter P E img m g passed → 1 ≤ passed
-some_passed {P} {E} {img} {m} {g} {passed} z = passed_some P (read P E img) m g passed z.due
-
-module _ (P E : ℕ) (img m : List ℕ) (g : Given) (time : ℕ) (r : Due) (et : time ≡ time_of m) (e : due_is r ≡ due_of (get_or img 0 0) time g) where
-  due_here : due_is r ≡ due_of (read P E img (head last_updated_epoch)) (time_of m) g
-  due_here = e ∙ ap₂ (λ (a b : ℕ). due_of a b g) (read_at P E img (head last_updated_epoch) 0 refl) et
-
-  pub due_refused : (k : ℕ) → r ≡ due.Refused k → (every_rolled : Bool) (t : Table) (seats rows : ℕ) (marks : BoolArray)
-      → (x : AdvancePlan) → x ≡ record { planned = planned.Refused k; seats = seats; rows = rows; marks = marks } → PlannedAs P E img m g every_rolled t x
-  due_refused k q every_rolled t seats rows marks x e = subst (PlannedAs P E img m g every_rolled t) (sym e) (record {
-    answer = due_refuses P (read P E img) m g k _ (sym due_here ∙ ap due_is q);
-    worked = λ a e. refused_works k a e;
-  })
-
-  pub due_ready : (passed : ℕ) → Ready P E img m g.epoch_duration → r ≡ due.Passed passed → ReadyAfter P E img m g passed
-  due_ready passed z q = record { ready = z; due = sym due_here ∙ ap due_is q }
+        pub all_worked : {Q W : ℕ} (t : SeatTable Q W) (plan : AdvancePlan) → Tabled w (λ (s : ℕ). get_or caps s 0) seats t → seats ≤ Q → plan.seats ≡ seats → plan.marks.words ≡ marks
+            → accepted (planned_as plan) ≡ adjust_fit r (w (head num_events)) passed (w (head claimable_rewards)) g → g.pool_reward_custody_balance < word
+            → Worked P w m plan t g.current_epoch
+        unfolding ratio_in
+        all_worked t plan tb room ep em ea small =
+            let x = adjust_says (w (head num_events)) passed (w (head claimable_rewards)) g r (planned_as plan) (sym ea) in
+            record {
+              seats_is = ep ∙ es;
+              rolls = rw ep ((sums_accepted w (λ (s : ℕ). get_or caps s 0) seats sums h).0);
+              table = rw ep (record {
+                first = record {
+                  self = λ s l. rw (← mt.cap s l) (tb.first.self s l);
+                  other = λ s l. rw (← mt.cap s l) (tb.first.other s l);
+                  fee = tb.first.fee;
+                };
+                later = record {
+                  self = λ s l. rw (← mt.cap s l) (tb.later.self s l);
+                  other = λ s l. rw (← mt.cap s l) (tb.later.other s l);
+                  fee = tb.later.fee;
+                };
+              });
+              room = omega arith;
+              marks = rw (ep, em) mt.mark;
+              unmarked = rw em mt.rest;
+              later = due_later P w m g passed (sym e);
+              count = omega (arith, passed_is P w m g passed (sym e));
+              covers = omega arith;
+            }
 
 -- ---- what a plan says of the calls
 
-module _ {P E : ℕ} {img m : List ℕ} {g : Given} {t : Table} {r : AdvancePlan} where
-  pub plan_advances : PlannedAs P E img m g false t r → map_outcome (answer_with P (read P E img) m) (planned_is r.planned) ≡ advance_of P (read P E img) m g
-  unfolding advance_of sum_of
-  plan_advances z = ap (map_outcome (answer_with P (read P E img) m)) z.answer
+pub plan_advances : (P : ℕ) (w : Words) (m : List ℕ) (g : Given) → map_outcome (answer_with P w m) (planned_of false P w m g) ≡ advance_of P w m g
+unfolding planned_of advance_of sum_of
+plan_advances P w m g = refl
 
-  pub plan_forecasts : PlannedAs P E img m g true t r → map_outcome (λ (a : Adjustment). a.set_aside) (planned_is r.planned) ≡ forecast_of P (read P E img) m g
-  unfolding forecast_of sum_of
-  plan_forecasts z = ap (map_outcome (λ (a : Adjustment). a.set_aside)) z.answer
+pub plan_forecasts : (P : ℕ) (w : Words) (m : List ℕ) (g : Given) → map_outcome (λ (a : Adjustment). a.set_aside) (planned_of true P w m g) ≡ forecast_of P w m g
+unfolding planned_of forecast_of sum_of
+plan_forecasts P w m g = refl

@@ -1,41 +1,41 @@
 -- Matching the rows with the seats, seat by seat, and the counts of the rows. Assumes nothing.
-use Rattle.std.proofs.Common.{◌≡◌, ℕ, zero, suc, ◌+◌, ◌-◌, ◌<◌, ◌≤◌, Bool, true, false, ◌||◌, eqb, ltb, List, length, set, replicate, sym, refl, ap, ◌∙◌, subst, ap₂, add-zero, add-suc, add-one, arith, length-set, eq-eqb, ne_eqb}
+use Rattle.std.proofs.Common.{◌≡◌, ℕ, zero, suc, ◌+◌, ◌-◌, ◌<◌, ◌≤◌, Bool, true, false, ◌||◌, eqb, ltb, List, length, set, replicate, sym, refl, ap, ◌∙◌, subst, add-zero, add-suc, add-one, arith, length-set, eq-eqb, ne_eqb}
 use native.Mathlib.Decide.{ℕ_discrete}
-use Rattle.std.specs.Prelude.{if◌then◌else◌}
-use Rattle.types.specs.Base.{any_below, count_below, to_nat}
+use Rattle.std.specs.Prelude.{Option, Some, None, if◌then◌else◌}
+use Rattle.types.specs.Base.{any_below, count_below}
 use Rattle.types.specs.BoolArray.{marked, with_mark, marked_rows}
-use Rattle.types.proofs.Below.{count_more, count_same}
+use Rattle.types.proofs.Below.{count_more, count_same, count_le}
 use Rattle.types.proofs.BoolArrayLaws.{mark_same, mark_other, mark_none}
 use Rattle.positions.specs.declared.Key.{Key}
-use Rattle.publisher_caps.specs.declared.Found.{Found}
-use Rattle.publisher_caps.specs.declared.Found.TheVariants.{At, Nothing}
 use Rattle.publisher_caps.specs.Key.{number_of}
 use Rattle.publisher_caps.specs.Message.{rows_of, key_at, Whole}
 use Rattle.publisher_caps.specs.Lookup.{lookup, cap_in, cap_of}
 use Rattle.publisher_caps.proofs.LookupLaws.{Sought, lookup_says, rows_same, cap_found}
 use Rattle.event.specs.Adjust.{Adjustment}
-use Rattle.image.specs.Layout.{Words, read}
+use Rattle.image.specs.Layout.{Words}
 use Rattle.image.specs.Seats.{publisher_at}
 use Rattle.advance_plan.specs.declared.rows.RowCounts.{RowCounts}
 use Rattle.advance_plan.specs.Advance.{key_number, seat_cap, matched_row, matched_rows, answer_with}
-use Rattle.advance_plan.specs.Stake.{Table}
-use Rattle.advance_plan.specs.Rows.{with_found, Matched, counts_of}
+use Rattle.advance_plan.specs.declared.plan.AdvancePlan.{AdvancePlan}
+use Rattle.advance_plan.specs.declared.table.SeatTable.{SeatTable}
+use Rattle.advance_plan.specs.Rows.{Matched, counts_of}
 use Rattle.advance_plan.specs.Plan.{Worked}
 use Rattle.advance_plan.proofs.StakeLaws.{list_more}
 
 -- ---- the marks with a row that was found
 
-pub with_arm : (words : List ℕ) (r a : Found) → r ≡ a → with_found words a ≡ with_found words r
-with_arm words r a e = ap (with_found words) (sym e)
+abbrev pub with_found : List ℕ → Option ℕ → List ℕ
+with_found words (Some i) = with_mark words i
+with_found words None = words
 
-pub length_with : (words : List ℕ) (r : Found) → length (with_found words r) ≡ length words
+pub length_with : (words : List ℕ) (r : Option ℕ) → length (with_found words r) ≡ length words
 unfolding with_mark
-length_with words (At i) = go (ltb i 1_024) _ _
+length_with words (Some i) = go (ltb i 1_024) _ _
   where
     go : (b : Bool) (j v : ℕ) → length (if b then set words j v else words) ≡ length words
     go true j v = length-set words j v
     go false j v = refl
-length_with words Nothing = refl
+length_with words None = refl
 
 -- ---- the loop over the seats
 
@@ -67,25 +67,25 @@ module _ (w : Words) (m : List ℕ) (s : ℕ) (caps words : List ℕ) (h : Match
     unfolding matched_row any_below
     miss j ne = rw (add-one s, ne_eqb (key_number w s) (key_at m j) (λ e. ne (sym e ∙ sym ek))) (or_false (any_below s (λ i. eqb (key_number w i) (key_at m j))))
 
-    marks_more : (r : Found) → Sought m k 0 (rows_of m) r → (j : ℕ) → j < rows_of m → marked (with_found words r) j ≡ matched_row w m (s + 1) j
-    marks_more (At i) so j lj = go (ℕ_discrete j i)
+    marks_more : (r : Option ℕ) → Sought m k 0 (rows_of m) r → (j : ℕ) → j < rows_of m → marked (with_found words r) j ≡ matched_row w m (s + 1) j
+    marks_more (Some i) so j lj = go (ℕ_discrete j i)
       where
         go : Dec (j ≡ i) → marked (with_mark words i) j ≡ matched_row w m (s + 1) j
         go (yes e) = rw (e, hit i so.2) (mark_same words i (omega (arith, whole.few)) (omega (arith, whole.few)))
         go (no ne) =
             let apart : key_at m j ≡ k → ⊥ = λ e. ne (rows_same m whole j i lj (omega arith) (e ∙ sym so.2)) in
             rw (miss j apart) (mark_other words i (omega (arith, whole.few)) (omega (arith, whole.few)) j ne ∙ h.mark j lj)
-    marks_more Nothing so j lj = rw (miss j (λ e. so j (omega arith) (omega arith) e)) (h.mark j lj)
+    marks_more None so j lj = rw (miss j (λ e. so j (omega arith) (omega arith) e)) (h.mark j lj)
 
-    rest_more : (r : Found) → Sought m k 0 (rows_of m) r → (j : ℕ) → rows_of m ≤ j → marked (with_found words r) j ≡ false
-    rest_more (At i) so j l = mark_other words i (omega (arith, whole.few)) (omega (arith, whole.few)) j (λ e. omega arith) ∙ h.rest j l
-    rest_more Nothing so j l = h.rest j l
+    rest_more : (r : Option ℕ) → Sought m k 0 (rows_of m) r → (j : ℕ) → rows_of m ≤ j → marked (with_found words r) j ≡ false
+    rest_more (Some i) so j l = mark_other words i (omega (arith, whole.few)) (omega (arith, whole.few)) j (λ e. omega arith) ∙ h.rest j l
+    rest_more None so j l = h.rest j l
 
-    cap_is : (r : Found) → r ≡ lookup m k 0 (rows_of m) → cap_in m r ≡ seat_cap w m s
+    cap_is : (r : Option ℕ) → r ≡ lookup m k 0 (rows_of m) → cap_in m r ≡ seat_cap w m s
     unfolding seat_cap
     cap_is r e = cap_found m (rows_of m) k r e ∙ ap (cap_of m (rows_of m)) ek
 
-    pub matched_more : (r : Found) (rows : ℕ) → rows ≡ rows_of m → r ≡ lookup m k 0 rows → (words' : List ℕ) → words' ≡ with_found words r
+    pub matched_more : (r : Option ℕ) (rows : ℕ) → rows ≡ rows_of m → r ≡ lookup m k 0 rows → (words' : List ℕ) → words' ≡ with_found words r
         → (v : ℕ) → v ≡ cap_in m r → s < length caps → Matched w m (s + 1) (set caps s v) words'
     matched_more r rows er lk words' ew v ev lt =
         let found : r ≡ lookup m k 0 (rows_of m) = rw er at lk in
@@ -105,48 +105,27 @@ matched_all w m s seats caps words e h = subst (λ (n : ℕ). Matched w m n caps
 
 -- ---- the counts
 
-pub count_le : (f : ℕ → Bool) (n : ℕ) → count_below n f ≤ n
-unfolding count_below
-count_le f zero = omega arith
-count_le f (suc n) = go (f n) (count_le f n)
-  where
-    go : (b : Bool) → count_below n f ≤ n → count_below n f + to_nat b ≤ suc n
-    go true h = omega arith
-    go false h = omega arith
-
 -- numbers that a test does not hold of add nothing
 rest_none : (f : ℕ → Bool) (rows d : ℕ) → ((j : ℕ) → rows ≤ j → f j ≡ false) → count_below (rows + d) f ≡ count_below rows f
 rest_none f rows zero h = ap (λ (n : ℕ). count_below n f) (add-zero rows)
 rest_none f rows (suc d) h = rw (add-suc rows d, count_more f (rows + d), h (rows + d) (omega arith)) (let r = rest_none f rows d h in omega arith)
 
-abbrev counted : (matched seated dropped : ℕ) → RowCounts
-counted matched seated dropped = record { matched = matched; seated = seated; dropped = dropped }
-
-module _ (n matched rows left : ℕ) (e : n ≡ matched) where
-  pub counts_seated : rows - n ≤ left → counted n (rows - n) 0 ≡ counts_of matched rows left
-  unfolding counts_of
-  counts_seated h = rw (← e) (ap₂ (counted n) (omega arith) (omega arith))
-
-  pub counts_dropped : left < rows - n → counted n left (rows - n - left) ≡ counts_of matched rows left
-  unfolding counts_of
-  counts_dropped h = rw (← e) (ap (λ (s : ℕ). counted n s (rows - n - left)) (omega arith))
-
 -- the marks' counts are those of the answer
-module _ {P E : ℕ} {img m : List ℕ} {seats rows : ℕ} {words : List ℕ} {t : Table} {epoch set_aside : ℕ} (z : Worked P E img m seats rows words t epoch set_aside) where
-  marked_rows_law : marked_rows words ≡ count_below rows (matched_row (read P E img) m seats)
+module _ {Q W P : ℕ} {w : Words} {m : List ℕ} {plan : AdvancePlan} {t : SeatTable Q W} {epoch : ℕ} (z : Worked P w m plan t epoch) (whole : Whole m) where
+  marked_rows_law : marked_rows plan.marks.words ≡ count_below (rows_of m) (matched_row w m plan.seats)
   marked_rows_law =
-      let few : rows ≤ 1_024 = omega (arith, z.rows_is, z.whole.few) in
-      ap (λ (n : ℕ). count_below n (marked words)) (omega arith) ∙ rest_none (marked words) rows (1_024 - rows) z.unmarked
-      ∙ count_same (marked words) (matched_row (read P E img) m seats) rows z.marks
+      let few : rows_of m ≤ 1_024 = whole.few in
+      ap (λ (n : ℕ). count_below n (marked plan.marks.words)) (omega arith) ∙ rest_none (marked plan.marks.words) (rows_of m) (1_024 - rows_of m) z.unmarked
+      ∙ count_same (marked plan.marks.words) (matched_row w m plan.seats) (rows_of m) z.marks
 
-  pub marked_are : marked_rows words ≡ matched_rows P (read P E img) m
+  pub marked_are : marked_rows plan.marks.words ≡ matched_rows P w m
   unfolding matched_rows
-  marked_are = marked_rows_law ∙ ap₂ (λ (n q : ℕ). count_below n (matched_row (read P E img) m q)) z.rows_is z.seats_is
+  marked_are = marked_rows_law ∙ ap (λ (q : ℕ). count_below (rows_of m) (matched_row w m q)) z.seats_is
 
-  pub marked_le : marked_rows words ≤ rows
-  marked_le = omega (arith, marked_rows_law, count_le (matched_row (read P E img) m seats) rows)
+  pub marked_le : marked_rows plan.marks.words ≤ rows_of m
+  marked_le = omega (arith, marked_rows_law, count_le (matched_row w m plan.seats) (rows_of m))
 
-  pub counts_answer : (c : RowCounts) → c ≡ counts_of (marked_rows words) rows (P - seats) → (a : Adjustment)
-      → record { y = a.y; set_aside = a.set_aside; matched = c.matched; seated = c.seated; dropped = c.dropped } ≡ answer_with P (read P E img) m a
+  pub counts_answer : (c : RowCounts) → c ≡ counts_of (marked_rows plan.marks.words) (rows_of m) (P - plan.seats) → (a : Adjustment)
+      → record { y = a.y; set_aside = a.set_aside; matched = c.matched; seated = c.seated; dropped = c.dropped } ≡ answer_with P w m a
   unfolding counts_of answer_with
-  counts_answer c e a = rw (e, marked_are, ← z.rows_is, ← z.seats_is)
+  counts_answer c e a = rw (e, marked_are, ← z.seats_is)

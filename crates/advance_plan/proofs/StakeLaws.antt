@@ -2,23 +2,21 @@
 use Rattle.std.proofs.Common.{◌≡◌, ℕ, ◌+◌, ◌*◌, ◌<◌, ◌≤◌, Bool, true, false, List, length, get_or, set, sym, refl, ap, ◌∙◌, subst, arith, length-set, get_or-set_other, get_or-set_same}
 use native.Mathlib.Decide.{ℕ_discrete}
 use Rattle.std.specs.Prelude.{if◌then◌else◌}
-use Rattle.types.specs.Base.{accepted}
-use Rattle.types.proofs.Below.{sum_none, sum_more, all_none, all_more}
+use Rattle.types.specs.Base.{Outcome, refused, accepted, sum_below, all_below}
+use Rattle.types.specs.Refusals.{does_not_fit}
+use Rattle.types.proofs.Below.{sum_none, sum_more, all_none, all_more, all_not}
 use Rattle.event.specs.declared.eligible.EligibleDelegationData.{EligibleDelegationData}
 use Rattle.event.specs.Eligible.{eligible_of}
 use Rattle.event.proofs.EligibleLaws.{both_are}
 use Rattle.delegation.specs.declared.DelegationState.{DelegationState}
-use Rattle.delegation.specs.declared.Changed.{Changed}
-use Rattle.delegation.specs.declared.Changed.TheVariants as changed
-use Rattle.delegation.specs.Side.{Side, roll_fits, roll_of, changed_is}
-use Rattle.delegation.proofs.SideLaws.{roll_into, roll_only, roll_fits_law}
-use Rattle.image.specs.Layout.{Whose, self, other, total_delegation, delta_delegation, delegation_fees, seat, Words}
+use Rattle.delegation.specs.Side.{Side, roll_fits, roll_of, rolled, side_of}
+use Rattle.image.specs.Layout.{self, other, total_delegation, delta_delegation, delegation_fees, seat, Words}
 use Rattle.image.specs.Seats.{side_at}
 use Rattle.advance_plan.specs.declared.stake.SeatEligible.{SeatEligible}
 use Rattle.advance_plan.specs.declared.stake.SeatEpochs.{SeatEpochs}
-use Rattle.advance_plan.specs.declared.stake.SeatEpochs.TheVariants.{Fits, DoesNotFit}
-use Rattle.advance_plan.specs.Advance.{total_in, seat_rolls, eligible_at, ratio_at, eligible_in, ratio_in}
-use Rattle.advance_plan.specs.Stake.{seat_eligible, seat_in, seat_epochs, Table, table_of, with_shares, Shared, Summed}
+use Rattle.advance_plan.specs.declared.table.SeatTable.{SeatTable}
+use Rattle.advance_plan.specs.Advance.{seat_rolls, eligible_at, ratio_at, eligible_in, ratio_in}
+use Rattle.advance_plan.specs.Stake.{seat_eligible, seat_in, seat_epochs, sums_of, with_shares, Shared, Tabled}
 
 -- a list filled up to n, one more
 pub list_more : (f : ℕ → ℕ) (l : List ℕ) (n v : ℕ) → ((i : ℕ) → i < n → get_or l i 0 ≡ f i) → n < length l → v ≡ f n → (i : ℕ) → i < n + 1 → get_or (set l n v) i 0 ≡ f i
@@ -45,88 +43,87 @@ module _ (x : EligibleDelegationData) (cap self_total other_total : ℕ) (e : x 
 
 -- ---- a seat's sides roll or not
 
-module _ (w : Words) (s : ℕ) (d : Whose) (side : DelegationState) (es : side ≡ side_at w s d)
-    (r : Changed) (e : changed_is r ≡ roll_of side.total_delegation.0 side.delta_delegation)
+-- what a roll's answer says
+roll_refused : (total change n : ℕ) → refused n ≡ roll_of total change → (roll_fits total change ≡ false) × (n ≡ does_not_fit)
+unfolding roll_of
+roll_refused total change n e = go (roll_fits total change) e
   where
-    total_stands : side.total_delegation.0 ≡ total_in w 0 s d
-    total_stands = ap (λ (x : DelegationState). x.total_delegation.0) es
+    go : (b : Bool) → ◌≡◌ {A = Outcome Side} (refused n) (if b then accepted (record { total = rolled total change; change = 0 }) else refused does_not_fit) → (b ≡ false) × (n ≡ does_not_fit)
+    go true h = let z : ◌≡◌ {A = ℕ} 0 1 = cc in absurd (omega arith)
+    go false h = (refl, cc)
 
-    rolls_as : changed_is r ≡ roll_of (w (seat s (total_delegation d))) (w (seat s (delta_delegation d)))
-    rolls_as = rw es at e
-
-    side_not : r ≡ changed.DoesNotFit → roll_fits (w (seat s (total_delegation d))) (w (seat s (delta_delegation d))) ≡ false
-    side_not q = roll_only _ _ (sym rolls_as ∙ ap changed_is q)
-
-    module _ (next : DelegationState) (q : r ≡ changed.Into next) where
-      side_rolls : roll_fits (w (seat s (total_delegation d))) (w (seat s (delta_delegation d))) ≡ true
-      side_rolls = roll_fits_law _ _ _ (sym rolls_as ∙ ap changed_is q)
-
-      side_total : next.total_delegation.0 ≡ total_in w 1 s d
-      side_total = same _ _ (sym (sym rolls_as ∙ ap changed_is q) ∙ roll_into _ _ side_rolls)
-        where
-          same : (a b : Side) → accepted a ≡ accepted b → a.total ≡ b.total
-          same a b h = let z : a ≡ b = cc in ap (λ (x : Side). x.total) z
-
-module _ (w : Words) (s cap : ℕ) (a b : DelegationState) (ea : a ≡ side_at w s self) (eb : b ≡ side_at w s other)
-    (r : Changed) (er : changed_is r ≡ roll_of a.total_delegation.0 a.delta_delegation)
+roll_accepted : (total change : ℕ) (x : Side) → accepted x ≡ roll_of total change → (roll_fits total change ≡ true) × (x.total ≡ rolled total change)
+unfolding roll_of
+roll_accepted total change x e = go (roll_fits total change) e
   where
-    pub self_not : r ≡ changed.DoesNotFit → DoesNotFit ≡ seat_epochs w cap s
+    go : (b : Bool) → accepted x ≡ (if b then accepted (record { total = rolled total change; change = 0 }) else refused does_not_fit) → (b ≡ true) × (x.total ≡ rolled total change)
+    go true h = let z : x ≡ record { total = rolled total change; change = 0 } = cc in (refl, ap (λ (y : Side). y.total) z)
+    go false h = let z : ◌≡◌ {A = ℕ} 0 1 = cc in absurd (omega arith)
+
+module _ (w : Words) (s cap : ℕ) (a b : DelegationState) (ea : a ≡ side_at w s self) (eb : b ≡ side_at w s other) where
+  pub self_not : (n : ℕ) → refused n ≡ roll_of a.total_delegation.0 a.delta_delegation → refused n ≡ seat_epochs w cap s
+  unfolding seat_epochs seat_rolls
+  self_not n e =
+      let h = roll_refused (w (seat s (total_delegation self))) (w (seat s (delta_delegation self))) n (rw ea at e) in
+      rw (h.0, h.1)
+
+  module _ (a' : DelegationState) (qa : accepted (side_of a') ≡ roll_of a.total_delegation.0 a.delta_delegation) where
+    pub other_not : (n : ℕ) → refused n ≡ roll_of b.total_delegation.0 b.delta_delegation → refused n ≡ seat_epochs w cap s
     unfolding seat_epochs seat_rolls
-    self_not q = rw (side_not w s self a ea r er q)
+    other_not n e =
+        let x = roll_accepted (w (seat s (total_delegation self))) (w (seat s (delta_delegation self))) _ (rw ea at qa) in
+        let h = roll_refused (w (seat s (total_delegation other))) (w (seat s (delta_delegation other))) n (rw eb at e) in
+        rw (x.0, h.0, h.1)
 
-    module _ (a' : DelegationState) (qa : r ≡ changed.Into a') (r' : Changed) (er' : changed_is r' ≡ roll_of b.total_delegation.0 b.delta_delegation) where
-      pub other_not : r' ≡ changed.DoesNotFit → DoesNotFit ≡ seat_epochs w cap s
-      unfolding seat_epochs seat_rolls
-      other_not q = rw (side_rolls w s self a ea r er a' qa, side_not w s other b eb r' er' q)
-
-      pub both_roll : (b' : DelegationState) → r' ≡ changed.Into b' → (first later : SeatEligible)
-          → first ≡ seat_eligible cap a.total_delegation.0 b.total_delegation.0
-          → later ≡ seat_eligible cap a'.total_delegation.0 b'.total_delegation.0 → Fits first later ≡ seat_epochs w cap s
-      unfolding seat_epochs seat_rolls
-      both_roll b' qb first later ef el =
-          rw (
-            side_rolls w s self a ea r er a' qa,
-            side_rolls w s other b eb r' er' b' qb,
-            ef,
-            el,
-            side_total w s self a ea r er a' qa,
-            side_total w s other b eb r' er' b' qb,
-            total_stands w s self a ea r er,
-            total_stands w s other b eb r' er',
-          )
+    pub both_roll : (b' : DelegationState) → accepted (side_of b') ≡ roll_of b.total_delegation.0 b.delta_delegation → (first later : SeatEligible)
+        → first ≡ seat_eligible cap a.total_delegation.0 b.total_delegation.0
+        → later ≡ seat_eligible cap a'.total_delegation.0 b'.total_delegation.0 → accepted (record { first = first; later = later }) ≡ seat_epochs w cap s
+    unfolding seat_epochs seat_rolls
+    both_roll b' qb first later ef el =
+        let x = roll_accepted (w (seat s (total_delegation self))) (w (seat s (delta_delegation self))) _ (rw ea at qa) in
+        let y = roll_accepted (w (seat s (total_delegation other))) (w (seat s (delta_delegation other))) _ (rw eb at qb) in
+        rw (x.0, y.0, ef, el, x.1, y.1, ea, eb)
 
 -- ---- what a seat's answer says
 
-module _ (w : Words) (cap s : ℕ) (r : SeatEpochs) (e : r ≡ seat_epochs w cap s) where
-  pub seat_not : r ≡ DoesNotFit → seat_rolls w s ≡ false
+module _ (w : Words) (cap s : ℕ) where
+  pub seat_not : (n : ℕ) → refused n ≡ seat_epochs w cap s → (seat_rolls w s ≡ false) × (n ≡ does_not_fit)
   unfolding seat_epochs
-  seat_not q = go (seat_rolls w s) (sym q ∙ e)
+  seat_not n e = go (seat_rolls w s) e
     where
-      go : (b : Bool) → DoesNotFit ≡ (if b then Fits (seat_in w cap 0 s) (seat_in w cap 1 s) else DoesNotFit) → b ≡ false
+      go : (b : Bool) → ◌≡◌ {A = Outcome SeatEpochs} (refused n) (if b then accepted (record { first = seat_in w cap 0 s; later = seat_in w cap 1 s }) else refused does_not_fit) → (b ≡ false) × (n ≡ does_not_fit)
       go true h = let z : ◌≡◌ {A = ℕ} 0 1 = cc in absurd (omega arith)
-      go false h = refl
+      go false h = (refl, cc)
 
-  pub seat_says : (first later : SeatEligible) → r ≡ Fits first later → (seat_rolls w s ≡ true) × (first ≡ seat_in w cap 0 s) × (later ≡ seat_in w cap 1 s)
+  pub seat_says : (x : SeatEpochs) → accepted x ≡ seat_epochs w cap s → (seat_rolls w s ≡ true) × (x.first ≡ seat_in w cap 0 s) × (x.later ≡ seat_in w cap 1 s)
   unfolding seat_epochs
-  seat_says first later q = go (seat_rolls w s) (sym q ∙ e)
+  seat_says x e = go (seat_rolls w s) e
     where
-      go : (b : Bool) → Fits first later ≡ (if b then Fits (seat_in w cap 0 s) (seat_in w cap 1 s) else DoesNotFit)
-          → (b ≡ true) × (first ≡ seat_in w cap 0 s) × (later ≡ seat_in w cap 1 s)
-      go true h = (refl, cc, cc)
+      go : (b : Bool) → accepted x ≡ (if b then accepted (record { first = seat_in w cap 0 s; later = seat_in w cap 1 s }) else refused does_not_fit)
+          → (b ≡ true) × (x.first ≡ seat_in w cap 0 s) × (x.later ≡ seat_in w cap 1 s)
+      go true h =
+          let z : x ≡ record { first = seat_in w cap 0 s; later = seat_in w cap 1 s } = cc in
+          (refl, ap (λ (y : SeatEpochs). y.first) z, ap (λ (y : SeatEpochs). y.later) z)
       go false h = let z : ◌≡◌ {A = ℕ} 0 1 = cc in absurd (omega arith)
 
 -- ---- the loop over the seats
 
+-- the first n seats: all of them roll; the sums over them, and the table
+pub record Summed {P W : ℕ} (w : Words) (cap : ℕ → ℕ) (n : ℕ) (t : SeatTable P W) (first later : ℕ) : Type 0 where
+  pub rolls : all_below n (seat_rolls w) ≡ true
+  pub first_sum : first ≡ sum_below n (eligible_in w cap 0)
+  pub later_sum : later ≡ sum_below n (eligible_in w cap 1)
+  pub table : Tabled w cap n t
+
 shared_none : (w : Words) (cap : ℕ → ℕ) (k : ℕ) (l : List ℕ) → Shared w cap k 0 l
 shared_none w cap k l = record { self = λ s l. absurd (omega arith); other = λ s l. absurd (omega arith); fee = λ s l. absurd (omega arith) }
 
-pub summed_none : (w : Words) (cap : ℕ → ℕ) (t : Table) → Summed w cap 0 t 0 0
+pub summed_none : {P W : ℕ} (w : Words) (cap : ℕ → ℕ) (t : SeatTable P W) → Summed w cap 0 t 0 0
 summed_none w cap t = record {
   rolls = all_none _;
   first_sum = sum_none _;
   later_sum = sum_none _;
-  table = record { first = shared_none w cap 0 t.first; later = shared_none w cap 1 t.later };
-  room = record { first = omega arith; later = omega arith };
+  table = record { first = shared_none w cap 0 t.first_shares; later = shared_none w cap 1 t.later_shares };
 }
 
 -- a seat's fields in the k-th passed epoch
@@ -140,11 +137,6 @@ seat_fields w cap k s x e = (
 )
 
 -- a list with the words of one more seat
-pub shares_set : (l : List ℕ) (s : ℕ) (x : SeatEligible) (fee : ℕ)
-    → set (set (set l (s * 3) x.self_reward_ratio.0) (s * 3 + 1) x.other_reward_ratio.0) (s * 3 + 2) fee ≡ with_shares l s x fee
-unfolding with_shares
-shares_set l s x fee = refl
-
 pub shares_length : (l : List ℕ) (s : ℕ) (x : SeatEligible) (fee : ℕ) (r : List ℕ) → r ≡ with_shares l s x fee → length r ≡ length l
 unfolding with_shares
 shares_length l s x fee r e = ap length e ∙ simp length-set
@@ -205,28 +197,33 @@ module _ (l : List ℕ) (s : ℕ) (x : SeatEligible) (fee : ℕ) (room : s * 3 +
       fees q lq (yes e) = rw e (here_fee ∙ ef)
       fees q lq (no ne) = front (q * 3 + 2) (omega arith) ∙ h.fee q (omega arith)
 
-pub summed_more : (w : Words) (cap : ℕ → ℕ) (s : ℕ) (t : Table) (x y : ℕ) → Summed w cap s t x y → (r : SeatEpochs) → r ≡ seat_epochs w (cap s) s
-    → (first later : SeatEligible) → r ≡ Fits first later
-    → (x' y' v : ℕ) → x' ≡ x + first.total_eligible_delegation.0 → y' ≡ y + later.total_eligible_delegation.0 → v ≡ w (seat s delegation_fees)
-    → s * 3 + 3 ≤ length t.first → s * 3 + 3 ≤ length t.later → (a b : List ℕ) → a ≡ with_shares t.first s first v → b ≡ with_shares t.later s later v
-    → Summed w cap (s + 1) (table_of a b) x' y'
-summed_more w cap s t x y h r e first later q x' y' v ex ey ev la lb a b qa qb =
-    let says = seat_says w (cap s) s r e first later q in
-    let f = seat_fields w cap 0 s first says.1 in
-    let g = seat_fields w cap 1 s later says.2 in
-    rw (qa, qb) (record {
+pub summed_more : {P W : ℕ} (w : Words) (cap : ℕ → ℕ) (s : ℕ) (t u : SeatTable P W) (x y : ℕ) → Summed w cap s t x y → (r : SeatEpochs) → accepted r ≡ seat_epochs w (cap s) s
+    → (x' y' v : ℕ) → x' ≡ x + r.first.total_eligible_delegation.0 → y' ≡ y + r.later.total_eligible_delegation.0 → v ≡ w (seat s delegation_fees)
+    → s * 3 + 3 ≤ length t.first_shares → s * 3 + 3 ≤ length t.later_shares
+    → u.first_shares ≡ with_shares t.first_shares s r.first v → u.later_shares ≡ with_shares t.later_shares s r.later v
+    → Summed w cap (s + 1) u x' y'
+summed_more w cap s t u x y h r e x' y' v ex ey ev la lb qa qb =
+    let says = seat_says w (cap s) s r e in
+    let f = seat_fields w cap 0 s r.first says.1 in
+    let g = seat_fields w cap 1 s r.later says.2 in
+    record {
       rolls = all_more _ s h.rolls says.0;
       first_sum = omega (arith, h.first_sum, f.0, sum_more (eligible_in w cap 0) s);
       later_sum = omega (arith, h.later_sum, g.0, sum_more (eligible_in w cap 1) s);
       table = record {
-        first = shared_more t.first s first v la w cap 0 h.table.first f.1 f.2 ev;
-        later = shared_more t.later s later v lb w cap 1 h.table.later g.1 g.2 ev;
+        first = subst (Shared w cap 0 (s + 1)) (sym qa) (shared_more t.first_shares s r.first v la w cap 0 h.table.first f.1 f.2 ev);
+        later = subst (Shared w cap 1 (s + 1)) (sym qb) (shared_more t.later_shares s r.later v lb w cap 1 h.table.later g.1 g.2 ev);
       };
-      room = record {
-        first = omega (arith, shares_length t.first s first v _ refl);
-        later = omega (arith, shares_length t.later s later v _ refl);
-      };
-    })
+    }
 
-pub summed_all : (w : Words) (cap : ℕ → ℕ) (s seats : ℕ) (t : Table) (x y : ℕ) → s ≡ seats → Summed w cap s t x y → Summed w cap seats t x y
-summed_all w cap s seats t x y e h = subst (λ (n : ℕ). Summed w cap n t x y) e h
+-- ---- the sums' answer
+
+pub sums_done : {P W : ℕ} (w : Words) (cap : ℕ → ℕ) (seats : ℕ) (t : SeatTable P W) (x y : ℕ) → Summed w cap seats t x y → accepted (record { first = x; later = y }) ≡ sums_of w cap seats
+unfolding sums_of
+sums_done w cap seats t x y h = rw (h.rolls, h.first_sum, h.later_sum)
+
+pub sums_not : (w : Words) (cap : ℕ → ℕ) (seats s n : ℕ) → s < seats → refused n ≡ seat_epochs w (cap s) s → refused n ≡ sums_of w cap seats
+unfolding sums_of
+sums_not w cap seats s n l e =
+    let h = seat_not w (cap s) s n e in
+    rw (all_not (seat_rolls w) seats s l h.0, h.1)

@@ -1,17 +1,10 @@
 -- What matching the rows with the seats comes to. Assumes nothing.
 use Rattle.std.specs.Prelude.{◌≡◌, ℕ, ◌-◌, ◌<◌, ◌≤◌, min, false, List, slice_index}
-use Rattle.types.specs.BoolArray.{marked, with_mark}
-use Rattle.publisher_caps.specs.declared.Found.{Found}
-use Rattle.publisher_caps.specs.declared.Found.TheVariants.{At, Nothing}
+use Rattle.types.specs.BoolArray.{marked}
 use Rattle.publisher_caps.specs.Message.{rows_of}
 use Rattle.image.specs.Layout.{Words}
 use Rattle.advance_plan.specs.declared.rows.RowCounts.{RowCounts}
 use Rattle.advance_plan.specs.Advance.{seat_cap, matched_row}
-
--- the marks with a row that was found
-abbrev pub with_found : List ℕ → Found → List ℕ
-with_found words (At i) = with_mark words i
-with_found words Nothing = words
 
 -- the caps and the marks of the first seats' keys; marks beyond the message's rows stay unset
 pub record Matched (w : Words) (m : List ℕ) (seats : ℕ) (caps words : List ℕ) : Type 0 where

@@ -1,14 +1,14 @@
--- Eligible amounts and ratios as the code holds them: of one seat, and of all seats with their lists. Assumes nothing.
-use Rattle.std.specs.Prelude.{◌≡◌, ℕ, ◌+◌, ◌*◌, ◌<◌, ◌≤◌, true, false, List, length, slice_index, slice_set, if◌then◌else◌}
-use Rattle.types.specs.Base.{sum_below, all_below}
+-- Eligible amounts and ratios as the code holds them: of one seat, and of all seats with their table. Assumes nothing.
+use Rattle.std.specs.Prelude.{◌≡◌, ℕ, zero, suc, ◌+◌, ◌*◌, ◌<◌, List, slice_index, slice_set, if◌then◌else◌}
+use Rattle.types.specs.Base.{Outcome, refused, accepted, sum_below, all_below}
+use Rattle.types.specs.Refusals.{does_not_fit}
 use Rattle.types.specs.Wide.{wide_of}
 use Rattle.image.specs.Layout.{self, other, delegation_fees, seat, Words}
 use Rattle.advance_plan.specs.declared.stake.SeatEligible.{SeatEligible}
 use Rattle.advance_plan.specs.declared.stake.SeatEpochs.{SeatEpochs}
-use Rattle.advance_plan.specs.declared.stake.SeatEpochs.TheVariants as seat-epochs
 use Rattle.advance_plan.specs.declared.stake.EligibleSums.{EligibleSums}
-use Rattle.advance_plan.specs.declared.stake.EligibleSums.TheVariants as eligible-sums
-use Rattle.advance_plan.specs.Advance.{total_in, seat_rolls, eligible_at, ratio_at, eligible_in, ratio_in}
+use Rattle.advance_plan.specs.declared.table.SeatTable.{SeatTable}
+use Rattle.advance_plan.specs.Advance.{total_in, seat_rolls, eligible_at, ratio_at, eligible_in, ratio_in, seat_cap}
 
 -- ---- one seat
 
@@ -24,25 +24,29 @@ abbrev pub seat_in : Words → (cap k s : ℕ) → SeatEligible
 seat_in w cap k s = seat_eligible cap (total_in w k s self) (total_in w k s other)
 
 -- in the first passed epoch and in a later one, where both sides roll
-unfoldable pub seat_epochs : Words → (cap s : ℕ) → SeatEpochs
-seat_epochs w cap s = if seat_rolls w s then seat-epochs.Fits (seat_in w cap 0 s) (seat_in w cap 1 s) else seat-epochs.DoesNotFit
+unfoldable pub seat_epochs : Words → (cap s : ℕ) → Outcome SeatEpochs
+seat_epochs w cap s = if seat_rolls w s then accepted (record { first = seat_in w cap 0 s; later = seat_in w cap 1 s }) else refused does_not_fit
 
 -- ---- all seats
 
--- the words of the seats in an event, three for each: self ratio, other ratio, fee. One list for the first passed epoch, one for every later one
-pub record Table : Type 0 where
-  pub first : List ℕ
-  pub later : List ℕ
+-- sums of eligible amounts over the seats, in the first passed epoch and in a later one
+pub record Sums : Type 0 where
+  pub first : ℕ
+  pub later : ℕ
 
-abbrev pub table_of : (first later : List ℕ) → Table
-table_of first later = record { first = first; later = later }
+-- 13 where a side does not roll
+unfoldable pub sums_of : Words → (cap : ℕ → ℕ) → (seats : ℕ) → Outcome Sums
+sums_of w cap seats =
+    if all_below seats (seat_rolls w) then accepted (record { first = sum_below seats (eligible_in w cap 0); later = sum_below seats (eligible_in w cap 1) })
+    else refused does_not_fit
 
--- each has words for n seats
-pub record Roomy (n : ℕ) (t : Table) : Type 0 where
-  pub first : n * 3 ≤ length t.first
-  pub later : n * 3 ≤ length t.later
+-- sums by the numbers they hold
+abbrev pub sums_as : EligibleSums → Sums
+sums_as sums = record { first = wide_of sums.first; later = wide_of sums.later }
 
--- a list with seat s's words
+-- ---- the table
+
+-- a list with seat s's words in an event: self ratio, other ratio, fee
 unfoldable pub with_shares : List ℕ → (s : ℕ) → SeatEligible → (fee : ℕ) → List ℕ
 with_shares l s x fee = slice_set (slice_set (slice_set l (s * 3) x.self_reward_ratio.0) (s * 3 + 1) x.other_reward_ratio.0) (s * 3 + 2) fee
 
@@ -52,20 +56,16 @@ pub record Shared (w : Words) (cap : ℕ → ℕ) (k n : ℕ) (l : List ℕ) : T
   pub other : (s : ℕ) → s < n → slice_index l (s * 3 + 1) ≡ ratio_in w cap k s other
   pub fee : (s : ℕ) → s < n → slice_index l (s * 3 + 2) ≡ w (seat s delegation_fees)
 
--- both are
-pub record Tabled (w : Words) (cap : ℕ → ℕ) (n : ℕ) (t : Table) : Type 0 where
-  pub first : Shared w cap 0 n t.first
-  pub later : Shared w cap 1 n t.later
+-- both of its lists are: one for the first passed epoch, one for every later one
+pub record Tabled {P W : ℕ} (w : Words) (cap : ℕ → ℕ) (n : ℕ) (t : SeatTable P W) : Type 0 where
+  pub first : Shared w cap 0 n t.first_shares
+  pub later : Shared w cap 1 n t.later_shares
 
--- all of them roll; the sums over them and the lists
-pub record Summed (w : Words) (cap : ℕ → ℕ) (seats : ℕ) (t : Table) (first later : ℕ) : Type 0 where
-  pub rolls : all_below seats (seat_rolls w) ≡ true
-  pub first_sum : first ≡ sum_below seats (eligible_in w cap 0)
-  pub later_sum : later ≡ sum_below seats (eligible_in w cap 1)
-  pub table : Tabled w cap seats t
-  pub room : Roomy seats t
+-- the list for the k-th passed epoch
+abbrev pub shares_in : {P W : ℕ} → SeatTable P W → (k : ℕ) → List ℕ
+shares_in t zero = t.first_shares
+shares_in t (suc k) = t.later_shares
 
--- the sums, or that a seat does not roll
-unfoldable pub SumsEligible : Words → (cap : ℕ → ℕ) → (seats : ℕ) → Table → EligibleSums → Type 0
-SumsEligible w cap seats t (eligible-sums.Sums first later) = Summed w cap seats t (wide_of first) (wide_of later)
-SumsEligible w cap seats t eligible-sums.DoesNotFit = all_below seats (seat_rolls w) ≡ false
+-- the caps of the first n seats' keys are in a list
+pub record Capped (w : Words) (m : List ℕ) (n : ℕ) (caps : List ℕ) : Type 0 where
+  pub cap : (s : ℕ) → s < n → slice_index caps s ≡ seat_cap w m s

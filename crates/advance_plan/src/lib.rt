@@ -5,9 +5,10 @@ pub mod due;
 pub mod plan;
 pub mod rows;
 pub mod stake;
+pub mod table;
 
 // What either is given besides the pool and the caps message.
-#[derive(Clone, Copy)]
+#[derive(Clone, Copy, Debug, PartialEq, Eq)]
 pub struct Given {
     pub current_epoch: u64,
     pub y: u64,

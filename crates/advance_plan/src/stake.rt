@@ -1,16 +1,19 @@
 // What the caps cover of the stake: sums over the seats, and each seat's ratios, before and after the roll.
-ghost use Rattle.std.specs.Prelude.{◌≡◌, ◌+◌, ◌*◌, ◌<◌, ◌≤◌, length, slice_index};
-ghost use Rattle.image.specs.Layout.{read};
-ghost use Rattle.image.specs.Seats.{Sized};
-ghost use Rattle.advance_plan.specs.Stake.{seat_eligible, seat_epochs, table_of, Roomy, with_shares, SumsEligible};
+ghost use Rattle.std.specs.Prelude.{◌≡◌, ◌+◌, ◌-◌, ◌*◌, ◌<◌, ◌≤◌, length, slice_index, IfOk, if◌then◌else◌};
+ghost use Rattle.types.specs.Base.{outcome_of, outcome_by};
+ghost use Rattle.types.specs.Wide.{wide_of, fit_of};
+ghost use Rattle.image.specs.Pool.{words_of};
+ghost use Rattle.advance_plan.specs.Stake.{seat_eligible, seat_epochs, with_shares, Tabled, sums_of, sums_as};
 
-use delegation::Changed;
+use crate::table::SeatTable;
 use event::eligible::EligibleDelegationData;
+use image::pool_data::PoolData;
+use types::refusals::Refusal;
 use types::wide::Wide;
 use types::{Amount, Ratio};
 
 // Both sides' eligible amounts together, and each side's ratio.
-#[derive(Drop)]
+#[derive(Clone, Copy, Debug, PartialEq, Eq)]
 pub struct SeatEligible {
     pub total_eligible_delegation: Amount,
     pub self_reward_ratio: Ratio,
@@ -18,70 +21,51 @@ pub struct SeatEligible {
 }
 
 // A seat in the first passed epoch, with the totals as they stand, and in a later one, with the totals rolled.
-#[derive(Drop)]
-pub enum SeatEpochs {
-    Fits {
-        first: SeatEligible,
-        later: SeatEligible,
-    },
-    DoesNotFit,
+#[derive(Clone, Copy, Debug, PartialEq, Eq)]
+pub struct SeatEpochs {
+    pub first: SeatEligible,
+    pub later: SeatEligible,
 }
 
 // The sums of eligible amounts over the seats, in the first passed epoch and in a later one.
-#[derive(Drop)]
-pub enum EligibleSums {
-    Sums { first: Wide, later: Wide },
-    DoesNotFit,
+#[derive(Clone, Copy, Debug, PartialEq, Eq)]
+pub struct EligibleSums {
+    pub first: Wide,
+    pub later: Wide,
 }
 
 fn seat_eligible(self_total: Amount, other_total: Amount, cap: Amount) -> SeatEligible
     ensures { result ≡ seat_eligible cap.0 self_total.0 other_total.0 }
 {
     let data = EligibleDelegationData::from_delegation_data(self_total, other_total, cap);
-    let a = data.self_eligible_delegation.0;
-    let b = data.other_eligible_delegation.0;
-    let sum = a + b;
-    let total_eligible_delegation = Amount(sum);
-    let ratios = data.reward_ratios;
-    let self_reward_ratio = ratios.self_reward_ratio;
-    let other_reward_ratio = ratios.other_reward_ratio;
+    let both = data.self_eligible_delegation.0 + data.other_eligible_delegation.0;
     SeatEligible {
-        total_eligible_delegation,
-        self_reward_ratio,
-        other_reward_ratio,
+        total_eligible_delegation: Amount(both),
+        self_reward_ratio: data.reward_ratios.self_reward_ratio,
+        other_reward_ratio: data.reward_ratios.other_reward_ratio,
     }
 }
 
-fn eligible_at_seat(pool: &[u64], p: usize, e: usize, s: usize, cap: u64) -> SeatEpochs
-    requires { Sized pool.now p e × (s < p) }
-    ensures { result ≡ seat_epochs (read p e pool.now) cap s }
+// 13 where a side does not roll.
+fn eligible_at_seat(pool: PoolData<'_>, s: usize, cap: Amount) -> Result<SeatEpochs, Refusal>
+    requires { s < pool.p }
+    ensures { outcome_of result ≡ seat_epochs (words_of pool.entry) cap.0 s }
 {
-    let self_side = image::seats::self_del_state(pool, p, e, s);
-    let other_side = image::seats::del_state(pool, p, e, s);
-    let rolled = self_side.roll();
-    let Changed::Into(self_next) = rolled else {
-        return SeatEpochs::DoesNotFit;
-    };
-    let rolled = other_side.roll();
-    let Changed::Into(other_next) = rolled else {
-        return SeatEpochs::DoesNotFit;
-    };
-    let first = seat_eligible(
-        self_side.total_delegation,
-        other_side.total_delegation,
-        Amount(cap),
-    );
-    let later = seat_eligible(
-        self_next.total_delegation,
-        other_next.total_delegation,
-        Amount(cap),
-    );
-    SeatEpochs::Fits { first, later }
+    let self_side = pool.side(s, true);
+    let other_side = pool.side(s, false);
+    let self_next = self_side.roll()?;
+    let other_next = other_side.roll()?;
+    Ok(SeatEpochs {
+        first: seat_eligible(self_side.total_delegation, other_side.total_delegation, cap),
+        later: seat_eligible(self_next.total_delegation, other_next.total_delegation, cap),
+    })
 }
 
 // The words of seat s in an event: its self ratio, other ratio and fee.
+#[tactic(auto, unfolding(crate::specs::Stake::with_shares))]
 fn set_shares(shares: &mut [u64], s: usize, seat: SeatEligible, fee: u64)
-    requires { (s < 1024) × (s * 3 + 3 ≤ length shares.old) }
+    requires few { s < 1024 }
+    requires room { s * 3 + 3 ≤ length shares.old }
     ensures { shares.new ≡ with_shares shares.old s seat fee }
 {
     let at = s * 3;
@@ -90,36 +74,41 @@ fn set_shares(shares: &mut [u64], s: usize, seat: SeatEligible, fee: u64)
     shares[at + 2] = fee;
 }
 
-// The first seats' ratios and fees go to the two lists, as they stand in an event.
-pub fn sum_eligible(
-    pool: &[u64],
-    p: usize,
-    e: usize,
+impl EligibleSums {
+    // The sum over the passed epochs, where it is a word: T, or with every epoch at the rolled totals.
+    pub fn over(self, passed: u64, every_rolled: bool) -> Option<u64>
+        requires { 1 ≤ passed }
+        ensures { result ≡ fit_of ((if every_rolled then wide_of self.later else wide_of self.first) + (passed - 1) * wide_of self.later) }
+    {
+        let first = if every_rolled { self.later } else { self.first };
+        first.plus_times(passed - 1, self.later)
+    }
+}
+
+// The first seats' ratios and fees go to the table, under the caps that it has. 13 where a side does not roll.
+pub fn sum_eligible<const P: usize, const W: usize>(
+    pool: PoolData<'_>,
     seats: usize,
-    caps: &[u64],
-    first_shares: &mut [u64],
-    later_shares: &mut [u64],
-) -> EligibleSums
-    requires { Sized pool.now p e × (seats ≤ p) × (p ≤ length caps.now) × Roomy p (table_of first_shares.old later_shares.old) }
-    ensures { SumsEligible (read p e pool.now) (λ s. slice_index caps.now s) seats (table_of first_shares.new later_shares.new) result }
+    table: &mut SeatTable<P, W>,
+) -> Result<EligibleSums, Refusal>
+    requires seats { seats ≤ pool.p }
+    requires room { pool.p ≤ P }
+    ensures sums { outcome_by sums_as result ≡ sums_of (words_of pool.entry) (slice_index table.old.caps) seats }
+    ensures shares { IfOk result (λ sums. Tabled (words_of pool.entry) (slice_index table.old.caps) seats table.new) }
+    ensures caps { table.new.caps ≡ table.old.caps }
 {
     let mut first_sum = Wide { hi: 0, lo: 0 };
     let mut later_sum = Wide { hi: 0, lo: 0 };
-    let mut s = 0;
-    while s < seats {
-        let epochs = eligible_at_seat(pool, p, e, s, caps[s]);
-        let SeatEpochs::Fits { first, later } = epochs else {
-            return EligibleSums::DoesNotFit;
-        };
-        first_sum = types::wide::plus(first_sum, first.total_eligible_delegation.0);
-        later_sum = types::wide::plus(later_sum, later.total_eligible_delegation.0);
-        let fee = image::seats::delegation_fee(pool, p, e, s);
-        set_shares(first_shares, s, first, fee);
-        set_shares(later_shares, s, later, fee);
-        s += 1;
+    for s in 0..seats {
+        let seat = eligible_at_seat(pool, s, Amount(table.caps[s]))?;
+        first_sum = first_sum.plus(seat.first.total_eligible_delegation.0);
+        later_sum = later_sum.plus(seat.later.total_eligible_delegation.0);
+        let fee = pool.delegation_fee(s);
+        set_shares(&mut table.first_shares, s, seat.first, fee);
+        set_shares(&mut table.later_shares, s, seat.later, fee);
     }
-    EligibleSums::Sums {
+    Ok(EligibleSums {
         first: first_sum,
         later: later_sum,
-    }
+    })
 }

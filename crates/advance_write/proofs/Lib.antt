@@ -1,7 +1,7 @@
-pub mod EventLaws
-pub mod RingLaws
-pub mod NameLaws
+pub mod BecomesLaws
+pub mod HeadLaws
 pub mod SidesLaws
 pub mod RowLaws
-pub mod HeadLaws
+pub mod EventLaws
+pub mod RingLaws
 pub mod WriteLaws

@@ -1,247 +1,222 @@
--- The ring of events, word by word: each slot keeps its newest event, so only the newest E need be written. Assumes nothing.
-use mathlib.Core.Path.{◌≡◌, refl, sym, ◌∙◌, ap, ap₂}
-use mathlib.Core.Logic.{◌⊎◌, inl, inr, ⊎_elim}
-use mathlib.Core.List.{List, ◌++◌}
-use Prim.Native.Nat.{ℕ, zero, suc, ◌+◌, ◌-◌, ◌*◌, ◌%◌, ◌≤◌, ◌<◌}
-use native.Mathlib.Nat.{mod-lt, add-sub_cancel_left, mul-le-mul_right}
-use native.Mathlib.Omega.{arith}
-use native.Mathlib.Numerals.{add-one}
-use lib.ListN.{get_or, take, drop}
+-- The ring of events: each slot keeps its newest event, so only the newest E need be written. Then the events' words are those of the definition.
+-- Assumes nothing.
+use Rattle.std.proofs.Common.{◌≡◌, ◌≢◌, ℕ, zero, suc, ◌+◌, ◌-◌, ◌%◌, ◌<◌, ◌≤◌, Bool, true, false, ◌&&◌, eqb, ltb, ◌⊎◌, List, refl, sym, ap, ◌∙◌, inl, inr, ⊎_elim, zero-add, add-suc, arith, eq-eqb, ne_eqb, ltb-true}
+use native.Mathlib.Decide.{ℕ_discrete}
+use Rattle.std.specs.Prelude.{if◌then◌else◌}
 use Rattle.types.specs.declared.Ratio.{Ratio}
-use Rattle.image.specs.Layout.{last_updated_epoch, num_events, head, event_size, event_at, num_events_at, read}
-use Rattle.image.specs.Lists.{if_lt, imap, strided}
-use Rattle.image.specs.Seats.{Sized}
-use Rattle.image.proofs.ListLaws.{if_lt_law, if_le, lt_or_le, Anew, anew_is, is_anew, within_before, within_in, within_after, part_back}
-use Rattle.image.proofs.StrideLaws.{strided_before, strided_behind, strided_at, strided_cong, strided_id, InRun, in_run}
-use Rattle.image.proofs.AgeLaws.{age, age_lt, age_zero, age_suc}
-use Rattle.image.proofs.PlaceLaws.{slot_fits_law, slot_of}
-use Rattle.image.proofs.SeatLaws.{read_at}
+use Rattle.image.specs.Layout.{self, other, Head, Seat, Slot, event_epoch, event_y, extra_space, Share, reward_ratio, event_fee, Field, head, seat, slot, share, Words, InRange}
+use Rattle.image.proofs.ListLaws.{lt_or_le}
+use Rattle.image.proofs.AgeLaws.{age, age_lt, slot_of}
+use Rattle.advance_plan.specs.declared.table.SeatTable.{SeatTable}
+use Rattle.advance_plan.specs.Advance.{slot_word, share_word, ratio_in, event_written, events_after}
+use Rattle.advance_plan.specs.Stake.{Tabled, shares_in}
 use Rattle.advance_write.specs.declared.events.PassedEpochs.{PassedEpochs}
-use Rattle.advance_write.specs.Events.{event_word, passed_epochs, Pass, head_in, shares_in, epoch_word, events_word}
-use Rattle.advance_write.proofs.EventLaws.{event_epoch_law, event_y_law, event_more, event_over}
+use Rattle.advance_write.specs.Events.{passed_epochs, share_in, epoch_words, events_words}
 
--- the number of the first event that is written
-abbrev pub num : Pass → ℕ
-num w = w.epochs.num_events
+-- ---- one word of slot t, which was o: c k o is what the k-th event makes of it, whatever an earlier one did
 
--- word j of the event of the k-th passed epoch
-unfoldable pub epoch_event : Pass → ℕ → ℕ → ℕ → ℕ
-epoch_event w k o j = event_word (head_in w.epochs k) (shares_in w.table k) w.seats o j
+module _ (E n t o : ℕ) (pos : 1 ≤ E) (lt : t < E) (c : ℕ → ℕ → ℕ) (over : (k j v : ℕ) → c k (c j v) ≡ c k v) where
+  abbrev turn : (k v : ℕ) → ℕ
+  turn k v = if eqb t ((n + k) % E) then c k v else v
 
--- word j of slot s once k epochs are passed and the events of the newest m are written
-unfoldable pub newest_word : Pass → ℕ → ℕ → ℕ → ℕ → ℕ → ℕ
-newest_word w m k o s j = if_lt (age w.e (num w + k) s) m (epoch_event w (k - 1 - age w.e (num w + k) s) o j) o
+  -- once the first k events are written, and once the d events from the first-th on are
+  pub all : ℕ → ℕ
+  all zero = o
+  all (suc k) = turn k (all k)
 
--- word i of the image then
-unfoldable pub ring_word : Pass → ℕ → ℕ → ℕ → ℕ → ℕ
-ring_word w m k o i = strided (event_at w.p 0) (event_size w.p) (newest_word w m k) w.e o i
+  pub late : (first d : ℕ) → ℕ
+  late first zero = o
+  late first (suc d) = turn (first + d) (late first d)
 
--- ---- laws
-
--- the words of the ring by slot
-module _ (w : Pass) (m k o : ℕ) where
-  pub ring_before : (i : ℕ) → i < event_at w.p 0 → ring_word w m k o i ≡ o
-  unfolding ring_word
-  ring_before i h = strided_before _ _ _ _ o i h
-
-  pub ring_behind : (i : ℕ) → num_events_at w.p w.e ≤ i → ring_word w m k o i ≡ o
-  unfolding ring_word
-  ring_behind i h = strided_behind (event_at w.p 0) (event_size w.p) (newest_word w m k) w.e o i (omega arith)
-
-  pub ring_at : (s j i : ℕ) → s < w.e → j < event_size w.p → i ≡ event_at w.p s + j → ring_word w m k o i ≡ newest_word w m k o s j
-  unfolding ring_word
-  ring_at s j i b c e = strided_at (event_at w.p 0) (event_size w.p) (newest_word w m k) w.e o s j i b c (omega arith)
-
-  -- a slot that is not written, and one that is
-  pub slot_old : (s j : ℕ) → m ≤ age w.e (num w + k) s → newest_word w m k o s j ≡ o
-  unfolding newest_word
-  slot_old s j h = if_le (age w.e (num w + k) s) m _ _ h
-
-  pub slot_new : (s j a : ℕ) → age w.e (num w + k) s ≡ a → a < m → newest_word w m k o s j ≡ epoch_event w (k - 1 - a) o j
-  unfolding newest_word
-  slot_new s j a e h =
-      if_lt_law (age w.e (num w + k) s) m _ _ (omega arith) ∙ ap (λ (x : ℕ). epoch_event w (k - 1 - x) o j) e
-
-module _ (w : Pass) (k o i : ℕ) where
-  pub epoch_in : (j : ℕ) → j < event_size w.p → i ≡ event_at w.p ((num w + k) % w.e) + j → epoch_word w k o i ≡ epoch_event w k o j
-  unfolding epoch_word epoch_event
-  epoch_in j c e = within_in _ _ _ o i j e c
-
-  pub epoch_out : (i < event_at w.p ((num w + k) % w.e)) ⊎ (event_at w.p ((num w + k) % w.e) + event_size w.p ≤ i) → epoch_word w k o i ≡ o
-  unfolding epoch_word
-  epoch_out h = ⊎_elim (λ x. within_before _ _ _ o i x) (λ x. within_after _ _ _ o i x) h
-
-epoch_over : (w : Pass) (k k' o j : ℕ) → epoch_event w k (epoch_event w k' o j) j ≡ epoch_event w k o j
-unfolding epoch_event
-epoch_over w k k' o j = event_over _ _ _ _ w.seats o j
-
--- one more epoch's event, seen at each word: it goes to the oldest slot, and all others are one older
-module _ (w : Pass) (m k : ℕ) (pos : 1 ≤ w.e) (low : m ≤ k) (o : ℕ) where
-  slot_step : (s j : ℕ) → s < w.e → (s ≡ (num w + k) % w.e → ⊥) → newest_word w m k o s j ≡ newest_word w (m + 1) (k + 1) o s j
-  slot_step s j b ne =
-      let a : ℕ = age w.e (num w + k) s in
-      let g : age w.e (num w + (k + 1)) s ≡ a + 1 = ap (λ (x : ℕ). age w.e x s) (omega arith) ∙ age_suc w.e (num w + k) s pos b ne in
-      ⊎_elim
-      (λ x. let q : k - 1 - a ≡ k + 1 - 1 - (a + 1) = omega arith in
-      slot_new w m k o s j a refl x ∙ ap (λ (z : ℕ). epoch_event w z o j) q ∙ sym (slot_new w (m + 1) (k + 1) o s j (a + 1) g (omega arith)))
-      (λ x. slot_old w m k o s j x ∙ sym (slot_old w (m + 1) (k + 1) o s j (omega arith)))
-      (lt_or_le a m)
-
-  slot_hit : (s j : ℕ) → s ≡ (num w + k) % w.e → epoch_event w k (newest_word w m k o s j) j ≡ newest_word w (m + 1) (k + 1) o s j
-  slot_hit s j e =
-      let g : age w.e (num w + (k + 1)) s ≡ 0 = ap₂ (λ (x z : ℕ). age w.e x z) (omega arith) e ∙ age_zero w.e (num w + k) pos in
-      let q : k + 1 - 1 - 0 ≡ k = omega arith in
-      ⊎_elim
-      (λ x. ap (λ (z : ℕ). epoch_event w k z j) (slot_new w m k o s j _ refl x) ∙ epoch_over w k _ o j)
-      (λ x. ap (λ (z : ℕ). epoch_event w k z j) (slot_old w m k o s j x))
-      (lt_or_le (age w.e (num w + k) s) m)
-      ∙ ap (λ (z : ℕ). epoch_event w z o j) (sym q) ∙ sym (slot_new w (m + 1) (k + 1) o s j 0 g (omega arith))
-
-  ring_in : (i : ℕ) → InRun (event_at w.p 0) (event_size w.p) w.e i → epoch_word w k (ring_word w m k o i) i ≡ ring_word w (m + 1) (k + 1) o i
-  ring_in i u =
-      let s : ℕ = u.rec in
-      let t : ℕ = (num w + k) % w.e in
-      let at : i ≡ event_at w.p s + u.word = omega (arith, u.at) in
-      let was = ring_at w m k o s u.word i u.rec_lt u.word_lt at in
-      let now = sym (ring_at w (m + 1) (k + 1) o s u.word i u.rec_lt u.word_lt at) in
-      ⊎_elim
-      (λ x. epoch_out w k _ i (inl (omega (arith, u.word_lt, mul-le-mul_right (9 + 3 * w.p) x)))
-      ∙ was ∙ slot_step s u.word u.rec_lt (λ q. omega (arith, q)) ∙ now)
-      (λ x. ⊎_elim
-      (λ y. epoch_out w k _ i (inr (omega (arith, mul-le-mul_right (9 + 3 * w.p) y)))
-      ∙ was ∙ slot_step s u.word u.rec_lt (λ q. omega (arith, q)) ∙ now)
-      (λ y. let e : s ≡ t = omega arith in
-      epoch_in w k _ i u.word u.word_lt (at ∙ ap (λ (z : ℕ). event_at w.p z + u.word) e)
-      ∙ ap (λ (z : ℕ). epoch_event w k z u.word) was ∙ slot_hit s u.word e ∙ now)
-      (lt_or_le t s))
-      (lt_or_le s t)
-
-  pub ring_turn : (i : ℕ) → epoch_word w k (ring_word w m k o i) i ≡ ring_word w (m + 1) (k + 1) o i
-  ring_turn i =
-      ⊎_elim
-      (λ x. epoch_out w k _ i (inl (omega arith)) ∙ ring_before w m k o i x ∙ sym (ring_before w (m + 1) (k + 1) o i x))
-      (λ x. ⊎_elim (λ y. ring_in i (in_run _ _ w.e i (omega arith) x (omega arith)))
-      (λ y. epoch_out w k _ i (inr (omega (arith, slot_fits_law w.p w.e ((num w + k) % w.e) (mod-lt (num w + k) pos))))
-      ∙ ring_behind w m k o i y ∙ sym (ring_behind w (m + 1) (k + 1) o i y))
-      (lt_or_le i (num_events_at w.p w.e)))
-      (lt_or_le i (event_at w.p 0))
-
--- with no event written an image is as it was
-ring_none : (w : Pass) (m k o i : ℕ) → m ≡ 0 → ring_word w m k o i ≡ o
-unfolding ring_word
-ring_none w m k o i e = strided_id _ _ (newest_word w m k) (newest_word w m k) w.e o (omega arith) (λ s j a b. slot_old w m k o s j (omega arith)) i
-
--- what all passed epochs leave, in closed form: each slot has its newest event
-pub events_ring : (w : Pass) (k o i : ℕ) → 1 ≤ w.e → events_word w k o i ≡ ring_word w k k o i
-unfolding events_word
-events_ring w zero o i pos = sym (ring_none w 0 0 o i refl)
-events_ring w (suc k) o i pos =
-    ap (λ (z : ℕ). epoch_word w k z i) (events_ring w k o i pos) ∙ ring_turn w k k pos (omega arith) o i
-    ∙ ap (λ (z : ℕ). ring_word w z z o i) (add-one k)
-
--- ---- the code's steps
-
--- the epochs passed, from the words that are read
-module _ (P E : ℕ) (img : List ℕ) (at : ℕ) (ea : at ≡ num_events_at P E) where
-  pub last_read : get_or img 0 0 ≡ read P E img (head last_updated_epoch)
-  last_read = read_at P E img (head last_updated_epoch) 0 refl
-
-  pub epochs_read : (epoch : ℕ) (y : Ratio)
-      → ◌≡◌ {A = PassedEpochs} (record { num_events = get_or img at 0; last_updated_epoch = record { 0 = get_or img 0 0 }; passed = epoch - get_or img 0 0; y = y }) (passed_epochs (read P E img) epoch y)
-  epochs_read epoch y =
-      ap₂ (λ (n l : ℕ). record { num_events = n; last_updated_epoch = record { 0 = l }; passed = epoch - l; y = y })
-      (read_at P E img (head num_events) at ea) last_read
-
--- the event's words back in the image, which began with those of its slot
-module _ (w : Pass) (k : ℕ) (pool ys : List ℕ) (a : ℕ) (z : Sized pool w.p w.e) (at : a ≡ event_at w.p ((num w + k) % w.e)) where
-  slot_back : (r : List ℕ) → r ≡ shares_in w.table k → ys ≡ imap (event_word (head_in w.epochs k) r w.seats) (take (a + (9 + 3 * w.p) - a) (drop a pool))
-      → take a pool ++ (ys ++ drop (a + (9 + 3 * w.p) - a) (drop a pool)) ≡ imap (epoch_word w k) pool
-  unfolding epoch_word
-  slot_back r e q =
-      rw (add-sub_cancel_left a (9 + 3 * w.p), at)
-      (part_back (event_word (head_in w.epochs k) (shares_in w.table k) w.seats) pool ys (event_at w.p ((num w + k) % w.e)) (event_size w.p)
-      (slot_of pool w.p w.e (num w + k) z).1 (rw (add-sub_cancel_left a (9 + 3 * w.p), at, e) at q))
-
-  -- of the first passed epoch, and of a later one
-  pub first_back : k ≡ 0 → ys ≡ imap (event_word (head_in w.epochs k) (shares_in w.table 0) w.seats) (take (a + (9 + 3 * w.p) - a) (drop a pool))
-      → take a pool ++ (ys ++ drop (a + (9 + 3 * w.p) - a) (drop a pool)) ≡ imap (epoch_word w k) pool
-  first_back c q = slot_back (shares_in w.table 0) (ap (λ (i : ℕ). shares_in w.table i) (sym c)) q
-
-  pub later_back : (k ≡ 0 → ⊥) → ys ≡ imap (event_word (head_in w.epochs k) (shares_in w.table 1) w.seats) (take (a + (9 + 3 * w.p) - a) (drop a pool))
-      → take a pool ++ (ys ++ drop (a + (9 + 3 * w.p) - a) (drop a pool)) ≡ imap (epoch_word w k) pool
-  later_back c q = slot_back (shares_in w.table 1) (go k c) q
+  all_anew : (k j : ℕ) → c k (all j) ≡ c k o
+  unfolding all
+  all_anew k zero = refl
+  all_anew k (suc j) = go (eqb t ((n + j) % E)) (all_anew k j)
     where
-      go : (i : ℕ) → (i ≡ 0 → ⊥) → shares_in w.table 1 ≡ shares_in w.table i
-      go zero c = absurd (c refl)
-      go (suc i) c = refl
+      go : (b : Bool) → c k (all j) ≡ c k o → c k (if b then c j (all j) else all j) ≡ c k o
+      go true h = over k j (all j) ∙ h
+      go false h = h
 
--- before the loop, a turn of it, and its end
-pub events_none : (w : Pass) (k : ℕ) (pool : List ℕ) → Anew (ring_word w (k - k) k) pool pool
-events_none w k pool = record { same = refl; word = λ i b. sym (ring_none w (k - k) k _ i (omega arith)) }
+  late_anew : (k first d : ℕ) → c k (late first d) ≡ c k o
+  unfolding late
+  late_anew k first zero = refl
+  late_anew k first (suc d) = go (eqb t ((n + (first + d)) % E)) (late_anew k first d)
+    where
+      go : (b : Bool) → c k (late first d) ≡ c k o → c k (if b then c (first + d) (late first d) else late first d) ≡ c k o
+      go true h = over k (first + d) (late first d) ∙ h
+      go false h = h
 
-pub events_turn : (w : Pass) (k₀ k : ℕ) (pool l l' : List ℕ) → 1 ≤ w.e → k₀ ≤ k → Anew (ring_word w (k - k₀) k) pool l → l' ≡ imap (epoch_word w k) l → Anew (ring_word w (k + 1 - k₀) (k + 1)) pool l'
-events_turn w k₀ k pool l l' a b h g =
-    let n : Anew (epoch_word w k) l l' = is_anew (epoch_word w k) l l' g in
-    let q : k - k₀ + 1 ≡ k + 1 - k₀ = omega arith in
-    record {
-      same = n.same ∙ h.same;
-      word = λ i d.
-          n.word i (rw h.same d) ∙ ap (λ (o : ℕ). epoch_word w k o i) (h.word i d)
-          ∙ ring_turn w (k - k₀) k a (omega arith) (get_or pool i 0) i
-          ∙ ap (λ (z : ℕ). ring_word w z (k + 1) (get_or pool i 0) i) q;
-    }
+  -- with none left out
+  late_all : (d : ℕ) → late 0 d ≡ all d
+  unfolding all late
+  late_all zero = refl
+  late_all (suc d) = rw (zero-add d, late_all d)
 
--- a slot's age is below E, so the newest E are all that the ring holds
-module _ (w : Pass) (k₀ k passed : ℕ) (pos : 1 ≤ w.e) (b : k₀ ≡ passed - w.e) (c : k ≡ passed) where
-  newest : (o s j : ℕ) → newest_word w (k - k₀) k o s j ≡ newest_word w passed passed o s j
-  newest o s j =
-      let d : age w.e (num w + k) s < w.e = age_lt w.e (num w + k) s pos in
-      let g : age w.e (num w + passed) s ≡ age w.e (num w + k) s = ap (λ (x : ℕ). age w.e (num w + x) s) (sym c) in
-      ⊎_elim
-      (λ x. slot_new w (k - k₀) k o s j _ refl x
-      ∙ ap (λ (x : ℕ). epoch_event w (x - 1 - age w.e (num w + k) s) o j) c
-      ∙ sym (slot_new w passed passed o s j _ g (omega arith)))
-      (λ x. slot_old w (k - k₀) k o s j x ∙ sym (slot_old w passed passed o s j (omega arith)))
-      (lt_or_le (age w.e (num w + k) s) (k - k₀))
+  -- as soon as one goes to the slot
+  unwritten_or_same : (first d : ℕ) → ((j : ℕ) → j < d → t ≢ (n + (first + j)) % E) ⊎ (late first d ≡ all (first + d))
+  unfolding all late
+  unwritten_or_same first zero = inl (λ j l. absurd (omega arith))
+  unwritten_or_same first (suc d) = rw (add-suc first d) (go (ℕ_discrete t ((n + (first + d)) % E)) (unwritten_or_same first d))
+    where
+      go : Dec (t ≡ (n + (first + d)) % E) → ((j : ℕ) → j < d → t ≢ (n + (first + j)) % E) ⊎ (late first d ≡ all (first + d))
+          → ((j : ℕ) → j < suc d → t ≢ (n + (first + j)) % E) ⊎ (turn (first + d) (late first d) ≡ turn (first + d) (all (first + d)))
+      go (yes e) h = inr (rw (eq-eqb t ((n + (first + d)) % E) e) (late_anew (first + d) first d ∙ sym (all_anew (first + d) (first + d))))
+      go (no ne) (inr q) = inr (rw (ne_eqb t ((n + (first + d)) % E) ne) q)
+      go (no ne) (inl h) = inl (λ j l. ⊎_elim (λ a. h j a) (λ a. let q : j ≡ d = omega arith in rw q ne) (lt_or_le j d))
 
-  all_newest : (o i : ℕ) → ring_word w (k - k₀) k o i ≡ ring_word w passed passed o i
-  unfolding ring_word
-  all_newest o i = strided_cong _ _ (newest_word w (k - k₀) k) (newest_word w passed passed) w.e o (omega arith) (λ s j x y. newest o s j) i
+  -- of E events in a row one does
+  some_written : (first d : ℕ) → E ≤ d → ((j : ℕ) → j < d → t ≢ (n + (first + j)) % E) → ⊥
+  some_written first d h none =
+      let a : ℕ = age E (n + (first + d)) t in
+      let young : a < E = age_lt E (n + (first + d)) t pos in
+      none (d - 1 - a) (omega arith) (slot_of E (n + (first + d)) t pos lt (omega arith) ∙ ap (λ (i : ℕ). i % E) (omega arith))
 
-  pub events_done : (pool l : List ℕ) → Anew (ring_word w (k - k₀) k) pool l → l ≡ imap (events_word w passed) pool
-  events_done pool l h =
-      anew_is (record { same = h.same; word = λ i d. h.word i d ∙ all_newest (get_or pool i 0) i ∙ sym (events_ring w passed _ i pos) })
+  pub newest_all : (first passed : ℕ) → first ≡ passed - E → late first (passed - first) ≡ all passed
+  newest_all first passed e = ⊎_elim few many (lt_or_le passed E)
+    where
+      few : passed < E → late first (passed - first) ≡ all passed
+      few h =
+          let z : first ≡ 0 = omega arith in
+          let q : passed - first ≡ passed = omega arith in
+          rw (q, z) (late_all passed)
 
--- seat q's word i: self ratio, other ratio, fee
-abbrev pub share_at : (shares : List ℕ) → (q i : ℕ) → ℕ
-share_at shares q zero = get_or shares (q * 3) 0
-share_at shares q (suc zero) = get_or shares (q * 3 + 1) 0
-share_at shares q (suc (suc i)) = get_or shares (q * 3 + 2) 0
+      many : E ≤ passed → late first (passed - first) ≡ all passed
+      many h =
+          let q : first + (passed - first) ≡ passed = omega arith in
+          ⊎_elim (λ none. absurd (some_written first (passed - first) (omega arith) none)) (λ same. same ∙ ap all q) (unwritten_or_same first (passed - first))
 
-share_is : (shares : List ℕ) (q i : ℕ) → i < 3 → get_or shares (q * 3 + i) 0 ≡ share_at shares q i
-share_is shares q zero l = ap (λ (j : ℕ). get_or shares j 0) (omega arith)
-share_is shares q (suc zero) l = refl
-share_is shares q (suc (suc i)) l = ap (λ (j : ℕ). get_or shares j 0) (omega arith)
+-- ---- all words
 
--- the words of the k-th passed epoch's event
-module _ (w : Pass) (k o : ℕ) where
-  pub epoch_number : epoch_event w k o 0 ≡ w.epochs.last_updated_epoch.0 + k
-  unfolding epoch_event
-  epoch_number = event_epoch_law _ _ _ o 0 refl
+-- once the d events from the first-th on are written
+unfoldable pub late_words : {Q W : ℕ} (E : ℕ) → Words → PassedEpochs → (seats : ℕ) → SeatTable Q W → (first d : ℕ) → Words
+late_words E w x seats t first zero f = w f
+late_words E w x seats t first (suc d) f = epoch_words E (late_words E w x seats t first d) x seats (first + d) (shares_in t (first + d)) f
 
-  pub epoch_y : epoch_event w k o 1 ≡ w.epochs.y.0
-  unfolding epoch_event
-  epoch_y = event_y_law _ _ _ o 1 refl
+-- an event's words depend on the one word that they replace
+pub epoch_same : (E : ℕ) (w v : Words) (x : PassedEpochs) (seats k : ℕ) (shares : List ℕ) (f : Field) → w f ≡ v f → epoch_words E w x seats k shares f ≡ epoch_words E v x seats k shares f
+unfolding epoch_words
+epoch_same E w v x seats k shares (head h) e = e
+epoch_same E w v x seats k shares (seat s g) e = e
+epoch_same E w v x seats k shares (slot t g) e = rw e
+epoch_same E w v x seats k shares (share t s g) e = rw e
 
-  pub epoch_share : (q i : ℕ) → q < w.seats → i < 3 → epoch_event w k o (9 + q * 3 + i) ≡ share_at (shares_in w.table k) q i
-  unfolding epoch_event
-  epoch_share q i a b = event_more _ _ _ o _ (omega arith) ∙ strided_at 9 1 _ _ o (q * 3 + i) 0 _ (omega arith) (omega arith) (omega arith) ∙ share_is _ q i b
+module _ {Q W : ℕ} (E : ℕ) (w : Words) (x : PassedEpochs) (seats : ℕ) (t : SeatTable Q W) where
+  pub late_none : (first d : ℕ) → d ≡ 0 → (f : Field) → w f ≡ late_words E w x seats t first d f
+  unfolding late_words
+  late_none first d e f = rw e refl
 
-  -- words that it leaves
-  pub epoch_spare : (j : ℕ) → 2 ≤ j → j < 9 → epoch_event w k o j ≡ o
-  unfolding epoch_event
-  epoch_spare j a b = event_more _ _ _ o j a ∙ strided_before 9 1 _ _ o j b
+  pub late_more : (first k : ℕ) → first ≤ k → (P : ℕ) (v : Words) → ((f : Field) → InRange P E f → v f ≡ late_words E w x seats t first (k - first) f) → (f : Field) → InRange P E f
+      → epoch_words E v x seats k (shares_in t k) f ≡ late_words E w x seats t first (k + 1 - first) f
+  unfolding late_words
+  late_more first k l P v has f r =
+      let q : k + 1 - first ≡ suc (k - first) = omega arith in
+      let q' : first + (k - first) ≡ k = omega arith in
+      rw (q, q') (epoch_same E v (late_words E w x seats t first (k - first)) x seats k (shares_in t k) f (has f r))
 
-  pub epoch_empty : (j : ℕ) → 9 + w.seats * 3 ≤ j → epoch_event w k o j ≡ o
-  unfolding epoch_event
-  epoch_empty j a = event_more _ _ _ o j (omega arith) ∙ strided_behind 9 1 _ _ o j (omega arith)
+  -- a slot's words
+  abbrev slot_made : (f : Slot) → (k o : ℕ) → ℕ
+  slot_made f k o = slot_word f (x.last_updated_epoch.0 + k) x.y.0 o
+
+  slot_over : (f : Slot) (k j o : ℕ) → slot_made f k (slot_made f j o) ≡ slot_made f k o
+  slot_over event_epoch k j o = refl
+  slot_over event_y k j o = refl
+  slot_over (extra_space c) k j o = refl
+
+  abbrev share_made : (s : ℕ) (f : Share) → (k o : ℕ) → ℕ
+  share_made s f k o = if ltb s seats then share_in (shares_in t k) s f else o
+
+  share_over : (s : ℕ) (f : Share) (k j o : ℕ) → share_made s f k (share_made s f j o) ≡ share_made s f k o
+  share_over s f k j o = go (ltb s seats)
+    where
+      go : (b : Bool) → (if b then share_in (shares_in t k) s f else (if b then share_in (shares_in t j) s f else o)) ≡ (if b then share_in (shares_in t k) s f else o)
+      go true = refl
+      go false = refl
+
+  module _ (pos : 1 ≤ E) (τ : ℕ) (lt : τ < E) where
+    slot_all : (f : Slot) (k : ℕ) → all E x.num_events τ (w (slot τ f)) pos lt (slot_made f) (slot_over f) k ≡ events_words E w x seats t k (slot τ f)
+    unfolding all events_words epoch_words
+    slot_all f zero = refl
+    slot_all f (suc k) = rw (slot_all f k)
+
+    slot_late : (f : Slot) (first d : ℕ) → late E x.num_events τ (w (slot τ f)) pos lt (slot_made f) (slot_over f) first d ≡ late_words E w x seats t first d (slot τ f)
+    unfolding late late_words epoch_words
+    slot_late f first zero = refl
+    slot_late f first (suc d) = rw (slot_late f first d)
+
+    share_all : (s : ℕ) (f : Share) (k : ℕ) → all E x.num_events τ (w (share τ s f)) pos lt (share_made s f) (share_over s f) k ≡ events_words E w x seats t k (share τ s f)
+    unfolding all events_words epoch_words
+    share_all s f zero = refl
+    share_all s f (suc k) = rw (share_all s f k)
+
+    share_late : (s : ℕ) (f : Share) (first d : ℕ) → late E x.num_events τ (w (share τ s f)) pos lt (share_made s f) (share_over s f) first d ≡ late_words E w x seats t first d (share τ s f)
+    unfolding late late_words epoch_words
+    share_late s f first zero = refl
+    share_late s f first (suc d) = rw (share_late s f first d)
+
+  -- words outside the ring stay
+  head_late : (h : Head) (first d : ℕ) → late_words E w x seats t first d (head h) ≡ w (head h)
+  unfolding late_words epoch_words
+  head_late h first zero = refl
+  head_late h first (suc d) = head_late h first d
+
+  head_all : (h : Head) (k : ℕ) → events_words E w x seats t k (head h) ≡ w (head h)
+  unfolding events_words epoch_words
+  head_all h zero = refl
+  head_all h (suc k) = head_all h k
+
+  seat_late : (s : ℕ) (g : Seat) (first d : ℕ) → late_words E w x seats t first d (seat s g) ≡ w (seat s g)
+  unfolding late_words epoch_words
+  seat_late s g first zero = refl
+  seat_late s g first (suc d) = seat_late s g first d
+
+  seat_all : (s : ℕ) (g : Seat) (k : ℕ) → events_words E w x seats t k (seat s g) ≡ w (seat s g)
+  unfolding events_words epoch_words
+  seat_all s g zero = refl
+  seat_all s g (suc k) = seat_all s g k
+
+  -- the newest E leave what all of them do
+  pub late_done : (P first k passed : ℕ) → 1 ≤ E → first ≡ passed - E → k ≡ passed → (f : Field) → InRange P E f → late_words E w x seats t first (k - first) f ≡ events_words E w x seats t passed f
+  late_done P first k passed pos e ek f r = rw ek (go f r)
+    where
+      go : (f : Field) → InRange P E f → late_words E w x seats t first (passed - first) f ≡ events_words E w x seats t passed f
+      go (head h) r = head_late h first (passed - first) ∙ sym (head_all h passed)
+      go (seat s g) r = seat_late s g first (passed - first) ∙ sym (seat_all s g passed)
+      go (slot τ g) r =
+          sym (slot_late pos τ r.0 g first (passed - first)) ∙ newest_all E x.num_events τ (w (slot τ g)) pos r.0 (slot_made g) (slot_over g) first passed e
+          ∙ slot_all pos τ r.0 g passed
+      go (share τ s g) r =
+          sym (share_late pos τ r.0 s g first (passed - first)) ∙ newest_all E x.num_events τ (w (share τ s g)) pos r.0 (share_made s g) (share_over s g) first passed e
+          ∙ share_all pos τ r.0 s g passed
+
+-- ---- the definition's words
+
+module _ {Q W : ℕ} (E : ℕ) (w : Words) (cap : ℕ → ℕ) (seats epoch : ℕ) (y : Ratio) (t : SeatTable Q W) (tb : Tabled w cap seats t) where
+  abbrev pass : PassedEpochs
+  pass = passed_epochs w epoch y
+
+  -- the table's words are the ratios and fees of the k-th passed epoch
+  table_word : (k s : ℕ) (f : Share) → s < seats → share_in (shares_in t k) s f ≡ share_word w cap k s f
+  unfolding ratio_in
+  table_word zero s (reward_ratio self) l = tb.first.self s l
+  table_word zero s (reward_ratio other) l = tb.first.other s l
+  table_word zero s event_fee l = tb.first.fee s l
+  table_word (suc k) s (reward_ratio self) l = tb.later.self s l
+  table_word (suc k) s (reward_ratio other) l = tb.later.other s l
+  table_word (suc k) s event_fee l = tb.later.fee s l
+
+  seated_word : (a b : Bool) (u v o : ℕ) → (b ≡ true → u ≡ v) → (if a then (if b then u else o) else o) ≡ (if a && b then v else o)
+  seated_word true true u v o h = h refl
+  seated_word true false u v o h = refl
+  seated_word false b u v o h = refl
+
+  epoch_is : (v : Words) (k : ℕ) (f : Field) → epoch_words E v pass seats k (shares_in t k) f ≡ event_written E w cap seats y.0 k f (v f)
+  unfolding epoch_words event_written
+  epoch_is v k (head h) = refl
+  epoch_is v k (seat s g) = refl
+  epoch_is v k (slot τ g) = refl
+  epoch_is v k (share τ s g) = seated_word (eqb τ ((pass.num_events + k) % E)) (ltb s seats) _ _ _ (λ h. table_word k s g (ltb-true s seats h))
+
+  pub events_are : (k : ℕ) (f : Field) → events_words E w pass seats t k f ≡ events_after E w cap seats y.0 k f
+  unfolding events_words events_after
+  events_are zero f = refl
+  events_are (suc k) f = epoch_is (events_words E w pass seats t k) k f ∙ ap (event_written E w cap seats y.0 k f) (events_are k f)

@@ -1,28 +1,29 @@
--- The words of the events that an advance writes, by place: what the event writers leave. Advance.antt's `events_after` says the same by name.
+-- The words of the events that an advance writes, from the table of the seats' words. Advance.antt's `events_after` says the same of ratios and fees.
 -- Assumes nothing.
-use Rattle.std.specs.Prelude.{List, ℕ, zero, suc, ◌+◌, ◌-◌, ◌*◌, ◌%◌, ◌≤◌, ◌<◌, get_or}
+use Rattle.std.specs.Prelude.{List, ℕ, zero, suc, ◌+◌, ◌-◌, ◌*◌, ◌%◌, ◌≤◌, ◌<◌, ◌==◌, nat_lt, length, take, drop, ◌++◌, slice_index, slice_set, if◌then◌else◌}
 use Rattle.types.specs.declared.Ratio.{Ratio}
 use Rattle.types.specs.Base.{word, half}
-use Rattle.image.specs.Layout.{last_updated_epoch, num_events, head, Words, event_size, event_at}
-use Rattle.image.specs.Lists.{if_lt, within, strided}
-use Rattle.image.specs.Seats.{Sized}
-use Rattle.advance_plan.specs.Stake.{Table, table_of}
+use Rattle.image.specs.Layout.{self, other, last_updated_epoch, num_events, Share, reward_ratio, event_fee, head, seat, slot, share, Words}
+use Rattle.advance_plan.specs.declared.table.SeatTable.{SeatTable}
+use Rattle.advance_plan.specs.Advance.{slot_word}
+use Rattle.advance_plan.specs.Stake.{shares_in}
 use Rattle.advance_write.specs.declared.events.EventHead.{EventHead}
 use Rattle.advance_write.specs.declared.events.PassedEpochs.{PassedEpochs}
 
 -- ---- an event
 
--- word q of the seats' words, whatever it was
-abbrev pub share_anew : (shares : List ℕ) → (o q i : ℕ) → ℕ
-share_anew shares o q i = get_or shares q 0
+-- an event's words with its head and the seats' words: spare words, and those of seats behind, stay
+abbrev pub with_event_head : EventHead → List ℕ → List ℕ
+with_event_head h event = slice_set (slice_set event 0 h.epoch.0) 1 h.y.0
 
--- word j of an event, where it was o, with the first n of the seats' words written, self ratio, other ratio and fee for each seat
-abbrev pub shares_word : (shares : List ℕ) → (n o j : ℕ) → ℕ
-shares_word shares n = strided 9 1 (share_anew shares) n
+unfoldable pub written_event : EventHead → (shares event : List ℕ) → List ℕ
+written_event h shares event = take 9 (with_event_head h event) ++ (shares ++ drop (length shares) (drop 9 (with_event_head h event)))
 
--- word j of an event, where it was o, once it is written: spare words and other seats stay
-unfoldable pub event_word : EventHead → List ℕ → (seats o j : ℕ) → ℕ
-event_word h r seats o j = if_lt j 1 h.epoch.0 (if_lt j 2 h.y.0 (shares_word r (seats * 3) o j))
+-- a word of seat s, from the list of the seats' words
+abbrev pub share_in : (shares : List ℕ) → (s : ℕ) → Share → ℕ
+share_in shares s (reward_ratio self) = slice_index shares (s * 3)
+share_in shares s (reward_ratio other) = slice_index shares (s * 3 + 1)
+share_in shares s event_fee = slice_index shares (s * 3 + 2)
 
 -- ---- the ring of events
 
@@ -35,38 +36,22 @@ passed_epochs w epoch y = record {
   y = y;
 }
 
--- what an advance writes its events from
-pub record Pass : Type 0 where
-  pub p : ℕ
-  pub e : ℕ
-  pub seats : ℕ
-  pub epochs : PassedEpochs
-  pub table : Table
+-- the words once the k-th passed epoch has written its event into its slot, with these words of the seats
+unfoldable pub epoch_words : (E : ℕ) → Words → PassedEpochs → (seats k : ℕ) → (shares : List ℕ) → Words
+epoch_words E w x seats k shares (head h) = w (head h)
+epoch_words E w x seats k shares (seat s f) = w (seat s f)
+epoch_words E w x seats k shares (slot t f) =
+    if t == (x.num_events + k) % E then slot_word f (x.last_updated_epoch.0 + k) x.y.0 (w (slot t f)) else w (slot t f)
+epoch_words E w x seats k shares (share t s f) =
+    if t == (x.num_events + k) % E then (if nat_lt s seats then share_in shares s f else w (share t s f)) else w (share t s f)
 
-abbrev pub pass_of : (p e seats : ℕ) → PassedEpochs → (first later : List ℕ) → Pass
-pass_of p e seats x first later = record { p = p; e = e; seats = seats; epochs = x; table = table_of first later }
+-- the words once each of the first k passed epochs has: the first with words of its own
+unfoldable pub events_words : {P W : ℕ} → (E : ℕ) → Words → PassedEpochs → (seats : ℕ) → SeatTable P W → (k : ℕ) → Words
+events_words E w x seats t zero f = w f
+events_words E w x seats t (suc k) f = epoch_words E (events_words E w x seats t k) x seats k (shares_in t k) f
 
--- the head of the k-th passed epoch's event, and its ratios: the first has its own
-abbrev pub head_in : PassedEpochs → (k : ℕ) → EventHead
-head_in x k = record { epoch = record { 0 = x.last_updated_epoch.0 + k }; y = x.y }
-
-abbrev pub shares_in : Table → (k : ℕ) → List ℕ
-shares_in t zero = t.first
-shares_in t (suc k) = t.later
-
--- word i of an image, where it was o, with the event of the k-th passed epoch written into its slot
-unfoldable pub epoch_word : Pass → (k o i : ℕ) → ℕ
-epoch_word w k o i =
-    within (event_at w.p ((w.epochs.num_events + k) % w.e)) (event_size w.p) (event_word (head_in w.epochs k) (shares_in w.table k) w.seats) o i
-
--- word i of an image, where it was o, once each of the first k passed epochs has written its event
-unfoldable pub events_word : Pass → (k o i : ℕ) → ℕ
-events_word w zero o i = o
-events_word w (suc k) o i = epoch_word w k (events_word w k o i) i
-
--- the seats are in the image; event numbers and epochs stay in range
-pub record Passing (pool : List ℕ) (p e seats : ℕ) (x : PassedEpochs) : Type 0 where
-  pub sized : Sized pool p e
-  pub within : seats ≤ p
+-- the seats are in the pool; event numbers and epochs stay in range
+pub record Passing (P seats : ℕ) (x : PassedEpochs) : Type 0 where
+  pub within : seats ≤ P
   pub numbers : x.num_events + x.passed < half
   pub latest : x.last_updated_epoch.0 + x.passed < word

@@ -1,22 +1,24 @@
 // The events: each passed epoch writes its own event's words, of which the ring keeps the newest E.
-ghost use Rattle.std.specs.Prelude.{◌≡◌, ◌+◌, ◌*◌, ◌≤◌, ◌<◌, length};
-ghost use Rattle.image.specs.Layout.{last_updated_epoch, head, read};
-ghost use Rattle.image.specs.Seats.{Sized};
-ghost use Rattle.image.specs.Lists.{imap};
-ghost use Rattle.advance_plan.specs.Stake.{table_of, Roomy};
-ghost use Rattle.advance_write.specs.Events.{event_word, passed_epochs, pass_of, epoch_word, events_word, Passing};
+ghost use Rattle.std.specs.Prelude.{◌≡◌, ◌+◌, ◌≤◌, ◌<◌, length};
+ghost use Rattle.image.specs.Layout.{last_updated_epoch, head};
+ghost use Rattle.image.specs.Pool.{words_of, words_in, Becomes};
+ghost use Rattle.advance_plan.specs.Stake.{shares_in};
+ghost use Rattle.advance_write.specs.Events.{written_event, passed_epochs, epoch_words, events_words, Passing};
 
+use advance_plan::table::SeatTable;
+use image::event_at;
+use image::pool_data::{PoolData, PoolDataMut};
 use types::{Epoch, Ratio};
 
 // An event's words in front of the seats': the one place for a word that is added to them.
-#[derive(Drop)]
+#[derive(Clone, Copy, Debug, PartialEq, Eq)]
 pub struct EventHead {
     pub epoch: Epoch,
     pub y: Ratio,
 }
 
 // The epochs that an advance passes: `passed` of them from the pool's last one on, the first of which writes event `num_events`.
-#[derive(Clone, Copy)]
+#[derive(Clone, Copy, Debug, PartialEq, Eq)]
 pub struct PassedEpochs {
     pub num_events: u64,
     pub last_updated_epoch: Epoch,
@@ -25,86 +27,67 @@ pub struct PassedEpochs {
 }
 
 // The epochs from the pool's last one to the one below `epoch`.
-pub fn passed_epochs(pool: &[u64], p: usize, e: usize, epoch: Epoch, y: Ratio) -> PassedEpochs
-    requires { Sized pool.now p e × (read p e pool.now (head last_updated_epoch) ≤ epoch.0) }
-    ensures { result ≡ passed_epochs (read p e pool.now) epoch.0 y }
+pub fn passed_epochs(pool: PoolData<'_>, epoch: Epoch, y: Ratio) -> PassedEpochs
+    requires { words_of pool (head last_updated_epoch) ≤ epoch.0 }
+    ensures { result ≡ passed_epochs (words_of pool.entry) epoch.0 y }
 {
-    let at = image::num_events_at(p, e);
-    let last = pool[0];
+    let last = pool.last_updated_epoch();
     PassedEpochs {
-        num_events: pool[at],
+        num_events: pool.num_events(),
         last_updated_epoch: Epoch(last),
         passed: epoch.0 - last,
         y,
     }
 }
 
-// Writes the event's head, and self ratio, other ratio and fee for each of the first seats.
-fn write_event(event: &mut [u64], seats: usize, head: EventHead, shares: &[u64])
-    requires { (seats ≤ 1024) × (9 + 3 * seats ≤ length event.old) × (seats * 3 ≤ length shares.now) }
-    ensures { event.new ≡ imap (event_word head shares.now seats) event.old }
+// Writes the event's head, and the seats' words.
+fn write_event(event: &mut [u64], head: EventHead, shares: &[u64])
+    requires { 9 + length shares.now ≤ length event.old }
+    ensures { event.new ≡ written_event head shares.now event.old }
 {
     event[0] = head.epoch.0;
     event[1] = head.y.0;
-    let words = seats * 3;
-    let mut i: usize = 0;
-    while i < words {
-        event[9 + i] = shares[i];
-        i += 1;
-    }
+    event[9..9 + shares.len()].copy_from_slice(shares);
 }
 
 // Writes the event of the k-th passed epoch, from 0, into its slot: the first has ratios of its own.
-fn write_epoch(
-    pool: &mut [u64],
-    p: usize,
-    e: usize,
+fn write_epoch<const P: usize, const W: usize>(
+    pool: &mut PoolDataMut<'_>,
     seats: usize,
     epochs: PassedEpochs,
     k: u64,
-    first_shares: &[u64],
-    later_shares: &[u64],
+    table: &SeatTable<P, W>,
 )
-    requires { Passing pool.old p e seats epochs × Roomy seats (table_of first_shares.now later_shares.now) × (k < epochs.passed) }
-    ensures { pool.new ≡ imap (epoch_word (pass_of p e seats epochs first_shares.now later_shares.now) k) pool.old }
+    requires passing { Passing pool.old.p seats epochs }
+    requires room { seats ≤ P }
+    requires passed { k < epochs.passed }
+    ensures { Becomes pool.old pool.new (epoch_words pool.old.e (words_in pool.old) epochs seats k (shares_in table.now k)) }
 {
     let number = epochs.num_events + k;
-    let epoch = epochs.last_updated_epoch.0 + k;
-    let y = epochs.y;
+    let slot = (number % pool.e as u64) as usize;
+    let from = event_at(pool.p, slot);
+    let to = from + (9 + 3 * pool.p);
     let head = EventHead {
-        epoch: Epoch(epoch),
-        y,
+        epoch: Epoch(epochs.last_updated_epoch.0 + k),
+        y: epochs.y,
     };
-    let slot = (number % (e as u64)) as usize;
-    let a = image::event_at(p, slot);
-    let b = a + (9 + 3 * p);
-    if k == 0 {
-        write_event(&mut pool[a..b], seats, head, first_shares);
-    } else {
-        write_event(&mut pool[a..b], seats, head, later_shares);
-    }
+    let shares = &table.shares(k)[..seats * 3];
+    write_event(&mut pool.words[from..to], head, shares);
 }
 
 // Writes the events of the newest passed epochs, at most as many as the ring holds.
-pub fn write_events(
-    pool: &mut [u64],
-    p: usize,
-    e: usize,
+pub fn write_events<const P: usize, const W: usize>(
+    pool: &mut PoolDataMut<'_>,
     seats: usize,
     epochs: PassedEpochs,
-    first_shares: &[u64],
-    later_shares: &[u64],
+    table: &SeatTable<P, W>,
 )
-    requires { Passing pool.old p e seats epochs × Roomy seats (table_of first_shares.now later_shares.now) }
-    ensures { pool.new ≡ imap (events_word (pass_of p e seats epochs first_shares.now later_shares.now) epochs.passed) pool.old }
+    requires passing { Passing pool.old.p seats epochs }
+    requires room { seats ≤ P }
+    ensures { Becomes pool.old pool.new (events_words pool.old.e (words_in pool.old) epochs seats table.now epochs.passed) }
 {
-    let passed = epochs.passed;
-    let mut k: u64 = 0;
-    if e as u64 <= passed {
-        k = passed - e as u64;
-    }
-    while k < passed {
-        write_epoch(pool, p, e, seats, epochs, k, first_shares, later_shares);
-        k += 1;
+    let from = epochs.passed.saturating_sub(pool.e as u64);
+    for k in from..epochs.passed {
+        write_epoch(pool, seats, epochs, k, table);
     }
 }

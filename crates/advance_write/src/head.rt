@@ -1,21 +1,20 @@
 // The words of the pool as a whole.
-ghost use Rattle.std.specs.Prelude.{◌≡◌};
-ghost use Rattle.image.specs.Layout.{read, image};
-ghost use Rattle.image.specs.Seats.{Sized};
+ghost use Rattle.image.specs.Pool.{words_in, Becomes};
 ghost use Rattle.advance_write.specs.Head.{head_words, HeadFits};
 
+use image::pool_data::PoolDataMut;
 use types::{Amount, Epoch};
 
 // Last epoch becomes `epoch`, the event count grows by the epochs passed, claimable by the amount set aside.
-pub fn write_head(pool: &mut [u64], p: usize, e: usize, epoch: Epoch, set_aside: Amount)
-    requires { Sized pool.old p e × HeadFits (read p e pool.old) epoch.0 set_aside.0 }
-    ensures { pool.new ≡ image p e (head_words (read p e pool.old) epoch.0 set_aside.0) }
+pub fn write_head(pool: &mut PoolDataMut<'_>, epoch: Epoch, set_aside: Amount)
+    requires { HeadFits (words_in pool.old) epoch.0 set_aside.0 }
+    ensures { Becomes pool.old pool.new (head_words (words_in pool.old) epoch.0 set_aside.0) }
 {
-    let at = image::num_events_at(p, e);
-    let num_events = pool[at];
-    let last = pool[0];
-    let claimable = pool[1];
-    pool[0] = epoch.0;
-    pool[1] = claimable + set_aside.0;
-    pool[at] = num_events + (epoch.0 - last);
+    let found = pool.read();
+    let last = found.last_updated_epoch();
+    let claimable = found.claimable_rewards() + set_aside.0;
+    let count = found.num_events() + (epoch.0 - last);
+    pool.set_last_updated_epoch(epoch.0);
+    pool.set_claimable_rewards(claimable);
+    pool.set_num_events(count);
 }

@@ -1,57 +1,47 @@
 // The seats that unmatched rows take.
 ghost use Rattle.std.specs.Prelude.{◌≡◌, ◌+◌, ◌≤◌, ◌<◌, if◌then◌else◌};
 ghost use Rattle.types.specs.BoolArray.{marked};
-ghost use Rattle.publisher_caps.specs.Message.{rows_of, Whole};
-ghost use Rattle.image.specs.Layout.{read, image};
-ghost use Rattle.image.specs.Seats.{Sized};
+ghost use Rattle.image.specs.Pool.{words_in, Becomes};
 ghost use Rattle.advance_write.specs.Rows.{row_words, keys_words};
 
+use image::pool_data::PoolDataMut;
+use publisher_caps::PublisherCaps;
 use types::bool_array::BoolArray;
 
 // Row j takes the next seat unless it is matched, while any is left. The answer is the place for the row after it.
 fn take_seat(
-    pool: &mut [u64],
-    p: usize,
-    e: usize,
+    pool: &mut PoolDataMut<'_>,
     place: usize,
-    m: &[u8],
+    caps: PublisherCaps<'_>,
     j: usize,
     matched: bool,
 ) -> usize
-    requires { Sized pool.old p e × (place ≤ 2048) × Whole m.now × (j < rows_of m.now) }
-    ensures { (pool.new ≡ image p e (row_words (read p e pool.old) m.now j place matched)) × (result ≡ (if matched then place else place + 1)) }
+    requires place { place ≤ 2048 }
+    requires row { j < caps.rows }
+    ensures words { Becomes pool.old pool.new (row_words (words_in pool.old) caps.entry.message.now j place matched) }
+    ensures next { result ≡ (if matched then place else place + 1) }
 {
     if matched {
         return place;
     }
-    if p <= place {
-        return place + 1;
+    if place < pool.p {
+        pool.set_publisher(place, caps.get_cap(j).pubkey);
     }
-    let row = publisher_caps::get_cap(m, j);
-    let key = row.pubkey;
-    image::seats::set_publisher(pool, p, e, place, key);
     place + 1
 }
 
 // Unmatched rows take seats in row order, from the first seat behind `seats`.
 pub fn seat_rows(
-    pool: &mut [u64],
-    p: usize,
-    e: usize,
+    pool: &mut PoolDataMut<'_>,
     seats: usize,
-    m: &[u8],
-    rows: usize,
-    marks: BoolArray,
+    caps: PublisherCaps<'_>,
+    marks: &BoolArray,
 )
-    requires { Sized pool.old p e × (seats ≤ p) × Whole m.now × (rows ≡ rows_of m.now) }
-    ensures { pool.new ≡ image p e (keys_words (read p e pool.old) m.now (marked marks.words) seats rows) }
+    requires { seats ≤ pool.old.p }
+    ensures { Becomes pool.old pool.new (keys_words (words_in pool.old) caps.entry.message.now (marked marks.now.words) seats caps.entry.rows) }
 {
-    let words = marks.words;
     let mut place = seats;
-    let mut j = 0;
-    while j < rows {
-        let matched = BoolArray::get(&words, j);
-        place = take_seat(pool, p, e, place, m, j, matched);
-        j += 1;
+    for j in 0..caps.rows {
+        place = take_seat(pool, place, caps, j, marks.get(j));
     }
 }

@@ -5,9 +5,6 @@ use Rattle.types.specs.Refusals.{does_not_fit, unexpected_position_state}
 use Rattle.positions.specs.declared.position.PositionState.{PositionState}
 use Rattle.positions.specs.declared.position.PositionState.TheVariants.{LOCKING, LOCKED, PREUNLOCKING, UNLOCKING, UNLOCKED}
 use Rattle.delegation.specs.declared.DelegationState.{DelegationState}
-use Rattle.delegation.specs.declared.Changed.{Changed}
-use Rattle.delegation.specs.declared.Removed.{Removed}
-use Rattle.delegation.specs.declared.Delta.{Delta}
 
 -- a side (document 01's term): its total, and its signed change as a word
 pub record Side : Type 0 where
@@ -67,20 +64,7 @@ slash_of total change locked preunlocking =
     if nat_lt total (locked + preunlocking) then refused does_not_fit
     else map_outcome (λ c. record { total = total - (locked + preunlocking); change = c }) (raised_of change preunlocking)
 
--- ---- the number and the values of each answer
+-- ---- a side by the numbers it holds
 
 abbrev pub side_of : DelegationState → Side
 side_of s = record { total = s.total_delegation.0; change = s.delta_delegation }
-
-abbrev pub changed_is : Changed → Outcome Side
-changed_is (Changed.Into s) = accepted (side_of s)
-changed_is Changed.DoesNotFit = refused does_not_fit
-
-abbrev pub removed_is : Removed → Outcome Side
-removed_is (Removed.Into s) = accepted (side_of s)
-removed_is Removed.DoesNotFit = refused does_not_fit
-removed_is Removed.UnexpectedPositionState = refused unexpected_position_state
-
-abbrev pub delta_is : Delta → Outcome ℕ
-delta_is (Delta.Into c) = accepted c
-delta_is Delta.DoesNotFit = refused does_not_fit

@@ -1,4 +1,4 @@
--- Laws of item 5's definitions: each answer by its condition, and what an accepted answer keeps. Assumes nothing.
+-- Laws of item 5's definitions: what an accepted answer keeps, and each refusal's condition. Assumes nothing.
 use mathlib.Core.Path.{◌≡◌, refl, subst}
 use mathlib.Core.Logic.{◌⊎◌, inl, inr, ⊎_elim}
 use mathlib.Core.Bool.{Bool, true, false}
@@ -6,32 +6,11 @@ use Prim.Native.Nat.{ℕ, ◌+◌, ◌-◌, ◌*◌, ◌/◌, ◌≤◌, ◌<◌
 use native.Mathlib.Nat.{le_refl, le_of_lt, mul-le-mul_left, mul-le-mul_right, div-le_of_le-mul, div-mul-le_self, div-lt_iff_lt-mul, lt-div-mul-add, lt_of_mul-lt-mul_right}
 use native.Mathlib.Omega.{arith}
 use lib.Dec.{leb, ltb}
-use borrow.Author.Tests.{le-leb, lt-leb, lt-ltb, le-ltb, leb-true, leb-false, ltb-true, ltb-false}
+use borrow.Author.Tests.{leb-true, leb-false, ltb-true, ltb-false}
 use Rattle.std.specs.Prelude.{if◌then◌else◌}
 use Rattle.types.specs.Base.{M, word, Outcome, refused, accepted}
 use Rattle.types.specs.Refusals.{does_not_fit, claimable_over_custody}
 use Rattle.event.specs.Adjust.{Adjustment, rewards_of, lowered_by, adjust_of}
-
-module _ (T y f b : ℕ) where
-  -- past a word
-  pub adjust_13 : word ≤ rewards_of T y + f → adjust_of T y f b ≡ refused does_not_fit
-  unfolding adjust_of
-  adjust_13 h = rw (le-leb word (rewards_of T y + f) h)
-
-  -- covered
-  pub adjust_kept : rewards_of T y + f < word → rewards_of T y + f ≤ b → adjust_of T y f b ≡ accepted (record { y = y; set_aside = rewards_of T y })
-  unfolding adjust_of
-  adjust_kept h k = rw (lt-leb word (rewards_of T y + f) h, le-leb (rewards_of T y + f) b k)
-
-  -- claimable over custody
-  pub adjust_14 : rewards_of T y + f < word → b < rewards_of T y + f → b < f → adjust_of T y f b ≡ refused claimable_over_custody
-  unfolding adjust_of
-  adjust_14 h k l = rw (lt-leb word (rewards_of T y + f) h, lt-leb (rewards_of T y + f) b k, lt-ltb b f l)
-
-  -- covered in part
-  pub adjust_lowered : rewards_of T y + f < word → b < rewards_of T y + f → f ≤ b → adjust_of T y f b ≡ accepted (lowered_by T y (b - f) (rewards_of T y))
-  unfolding adjust_of
-  adjust_lowered h k l = rw (lt-leb word (rewards_of T y + f) h, lt-leb (rewards_of T y + f) b k, le-ltb b f l)
 
 -- a lowered y is at most y
 pub lowered_y_le : (y A R : ℕ) → A ≤ R → y * A / R ≤ y

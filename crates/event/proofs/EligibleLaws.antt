@@ -1,8 +1,8 @@
 -- Laws of item 3's definitions. Assumes nothing.
-use mathlib.Core.Path.{◌≡◌, ap, ◌∙◌}
+use mathlib.Core.Path.{◌≡◌}
 use mathlib.Core.Logic.{⊎_elim}
-use Prim.Native.Nat.{ℕ, ◌+◌, ◌-◌, ◌*◌, ◌/◌, ◌≤◌, ◌<◌, min}
-use native.Mathlib.Nat.{eq-zero-or-pos, mul-zero, zero-div, mul-le-mul_left, mul-div-le, mul-div_cancel, div-le_of_le-mul}
+use Prim.Native.Nat.{ℕ, ◌+◌, ◌*◌, ◌/◌, ◌≤◌, ◌<◌, min}
+use native.Mathlib.Nat.{eq-zero-or-pos, mul-le-mul_left, mul-div-le, div-le_of_le-mul}
 use native.Mathlib.Omega.{arith}
 use borrow.Author.Tests.{eq-eqb, ne_eqb}
 use Rattle.types.specs.Base.{M}
@@ -16,14 +16,6 @@ ratio_empty p t z = rw (eq-eqb t 0 z)
 pub ratio_some : (p t : ℕ) → 0 < t → ratio_of p t ≡ M * p / t
 unfolding ratio_of
 ratio_some p t h = rw (ne_eqb t 0 (λ z. omega arith))
-
--- nothing of a total
-pub ratio_none : (p t : ℕ) → p ≡ 0 → ratio_of p t ≡ 0
-ratio_none p t z = ⊎_elim (ratio_empty p t) (λ h. ratio_some p t h ∙ rw (z, mul-zero M) (zero-div t)) (eq-zero-or-pos t)
-
--- all of a total is a whole
-pub ratio_whole : (p t : ℕ) → 0 < t → p ≡ t → ratio_of p t ≡ M
-ratio_whole p t h e = ratio_some p t h ∙ ap (λ (x : ℕ). M * x / t) e ∙ mul-div_cancel M h
 
 -- a part of a total is at most a whole
 pub ratio_le : (p t : ℕ) → p ≤ t → ratio_of p t ≤ M

@@ -1,4 +1,4 @@
--- Laws of item 7's definitions: each answer by its condition, and what each answer tells. Assumes nothing.
+-- Laws of item 7's definitions: what each answer tells. Assumes nothing.
 use mathlib.Core.Path.{◌≡◌, refl, sym, subst}
 use mathlib.Core.Logic.{◌⊎◌, inl, inr}
 use mathlib.Core.Bool.{Bool, true, false}
@@ -6,7 +6,7 @@ use Prim.Native.Nat.{ℕ, ◌+◌, ◌-◌, ◌*◌, ◌/◌, ◌≤◌, ◌<◌
 use native.Mathlib.Nat.{add-zero, zero-mul, mul-zero, zero-div, mul-le-mul_right, le-div_iff_mul-le, div-mul-le_self}
 use native.Mathlib.Omega.{arith}
 use lib.Dec.{eqb, leb, ltb}
-use borrow.Author.Tests.{le-leb, lt-leb, lt-ltb, le-ltb, eq-eqb, ne_eqb, leb-true, leb-false, ltb-true, ltb-false, eqb-true, eqb-false}
+use borrow.Author.Tests.{eq-eqb, leb-true, ltb-true, ltb-false, eqb-true, eqb-false}
 use Rattle.std.specs.Prelude.{if◌then◌else◌}
 use Rattle.types.specs.Base.{M, word, Outcome, refused, accepted}
 use Rattle.types.specs.Refusals.{does_not_fit}
@@ -17,42 +17,6 @@ module _ (a y ratio fee : ℕ) (self_side : Bool) where
   pub reward_none : a ≡ 0 → reward_of a y ratio fee self_side ≡ accepted (record { delegator = 0; publisher = 0 })
   unfolding reward_of
   reward_none z = rw (eq-eqb a 0 z)
-
-  pub reward_rate_13 : (a ≡ 0 → ⊥) → word ≤ rate_of y ratio → reward_of a y ratio fee self_side ≡ refused does_not_fit
-  unfolding reward_of
-  reward_rate_13 z h = rw (ne_eqb a 0 z, le-leb word (rate_of y ratio) h)
-
-  pub reward_total_13 : (a ≡ 0 → ⊥) → rate_of y ratio < word → word ≤ total_of a (rate_of y ratio) → reward_of a y ratio fee self_side ≡ refused does_not_fit
-  unfolding reward_of
-  reward_total_13 z h k = rw (ne_eqb a 0 z, lt-leb word (rate_of y ratio) h, le-leb word (total_of a (rate_of y ratio)) k)
-
-  pub reward_shared : (a ≡ 0 → ⊥) → rate_of y ratio < word → total_of a (rate_of y ratio) < word → reward_of a y ratio fee self_side ≡ shared (total_of a (rate_of y ratio)) fee self_side
-  unfolding reward_of
-  reward_shared z h k = rw (ne_eqb a 0 z, lt-leb word (rate_of y ratio) h, lt-leb word (total_of a (rate_of y ratio)) k)
-
-module _ (total fee : ℕ) where
-  pub shared_self : shared total fee true ≡ accepted (record { delegator = total; publisher = 0 })
-  unfolding shared
-  shared_self = refl
-
-  pub shared_13 : total < total * fee / M → shared total fee false ≡ refused does_not_fit
-  unfolding shared
-  shared_13 h = rw (lt-ltb total (total * fee / M) h)
-
-  pub shared_parts : total * fee / M ≤ total → shared total fee false ≡ accepted (record { delegator = total - total * fee / M; publisher = total * fee / M })
-  unfolding shared
-  shared_parts h = rw (le-ltb total (total * fee / M) h)
-
--- an event's reward on each side
-pub self_side_law : (e : Event) (amount : ℕ)
-    → event_reward e amount true ≡ reward_of amount e.y.0 e.event_data.self_reward_ratio.0 e.event_data.delegation_fee.0 true
-unfolding event_reward
-self_side_law e amount = refl
-
-pub other_side : (e : Event) (amount : ℕ)
-    → event_reward e amount false ≡ reward_of amount e.y.0 e.event_data.other_reward_ratio.0 e.event_data.delegation_fee.0 false
-unfolding event_reward
-other_side e amount = refl
 
 -- ---- what an answer tells: the parts add up to the total, and 13 has one of its conditions
 
@@ -112,6 +76,10 @@ module _ (a y ratio fee : ℕ) (self_side : Bool) where
   pub reward_adds : (p : Parts) → reward_of a y ratio fee self_side ≡ accepted p → p.delegator + p.publisher ≡ total_of a (rate_of y ratio)
   reward_adds p e = subst (Tells a y ratio fee self_side) e reward_tells
 
+  -- only 13 is given
+  pub reward_refused : (k : ℕ) → reward_of a y ratio fee self_side ≡ refused k → k ≡ does_not_fit
+  reward_refused k e = (subst (Tells a y ratio fee self_side) e reward_tells).0
+
   -- 13 only by one of its conditions
   pub reward_13_only : reward_of a y ratio fee self_side ≡ refused does_not_fit → (a ≡ 0 → ⊥) × Unfit a y ratio fee self_side
   reward_13_only e = (subst (Tells a y ratio fee self_side) e reward_tells).1
@@ -121,6 +89,11 @@ pub event_adds : (e : Event) (a : ℕ) (self_side : Bool) (p : Parts) → event_
     → p.delegator + p.publisher ≡ total_of a (rate_of e.y.0 (if self_side then e.event_data.self_reward_ratio.0 else e.event_data.other_reward_ratio.0))
 unfolding event_reward
 event_adds e a self_side p q = reward_adds a _ _ _ self_side p q
+
+-- an event refuses with 13 alone
+pub event_refused : (e : Event) (a : ℕ) (self_side : Bool) (k : ℕ) → event_reward e a self_side ≡ refused k → k ≡ does_not_fit
+unfolding event_reward
+event_refused e a self_side k q = reward_refused a _ _ _ self_side k q
 
 -- amount 0 earns nothing in any event
 pub event_none : (e : Event) (a : ℕ) (self_side : Bool) → a ≡ 0 → accepted (record { delegator = 0; publisher = 0 }) ≡ event_reward e a self_side

@@ -3,7 +3,6 @@ use Rattle.std.specs.Prelude.{ℕ, ◌+◌, ◌-◌, ◌*◌, ◌/◌, leb, ltb,
 use Rattle.types.specs.Base.{M, word, Outcome, refused, accepted}
 use Rattle.types.specs.Refusals.{does_not_fit, claimable_over_custody}
 use Rattle.event.specs.declared.adjust.Adjusted.{Adjusted}
-use Rattle.event.specs.declared.adjust.Adjusted.TheVariants.{Rewards, DoesNotFit, ClaimableOverCustody}
 
 -- y', which the events get, and the amount set aside (document 01's term)
 pub record Adjustment : Type 0 where
@@ -27,8 +26,6 @@ adjust_of T y claimable custody =
     else if ltb custody claimable then refused claimable_over_custody
     else accepted (lowered_by T y (custody - claimable) (rewards_of T y))
 
--- the number and the values of each answer
-abbrev pub adjusted_is : Adjusted → Outcome Adjustment
-adjusted_is (Rewards y aside) = accepted (record { y = y.0; set_aside = aside.0 })
-adjusted_is DoesNotFit = refused does_not_fit
-adjusted_is ClaimableOverCustody = refused claimable_over_custody
+-- an adjustment by the numbers it holds
+abbrev pub adjusted_as : Adjusted → Adjustment
+adjusted_as a = record { y = a.y.0; set_aside = a.set_aside.0 }

@@ -4,7 +4,6 @@ use Rattle.types.specs.Base.{M, word, Outcome, refused, accepted}
 use Rattle.types.specs.Refusals.{does_not_fit}
 use Rattle.event.specs.declared.event.Event.{Event}
 use Rattle.event.specs.declared.event.Reward.{Reward}
-use Rattle.event.specs.declared.event.Reward.TheVariants.{Paid, DoesNotFit}
 
 -- the delegator's part and the publisher's part (document 01's terms)
 pub record Parts : Type 0 where
@@ -41,7 +40,6 @@ event_reward e amount self_side =
     reward_of amount e.y.0 (if self_side then e.event_data.self_reward_ratio.0 else e.event_data.other_reward_ratio.0)
     e.event_data.delegation_fee.0 self_side
 
--- the number and the values of each answer
-abbrev pub reward_is : Reward → Outcome Parts
-reward_is (Paid d p) = accepted (record { delegator = d.0; publisher = p.0 })
-reward_is DoesNotFit = refused does_not_fit
+-- a reward by the numbers it holds
+abbrev pub parts_as : Reward → Parts
+parts_as r = record { delegator = r.delegator_reward.0; publisher = r.publisher_reward.0 }

@@ -1,31 +1,26 @@
 // Item 3: what a publisher's cap covers of each side's total.
-ghost use Rattle.std.specs.Prelude.{◌≡◌, ◌≤◌, min};
+ghost use Rattle.std.specs.Prelude.{◌≡◌, ◌≤◌};
 ghost use Rattle.event.specs.Eligible.{ratio_of, eligible_of};
 
-use types::mul_div::MulDiv;
+use crate::quotient;
 use types::{Amount, FRAC_64_MULTIPLIER, Ratio};
 
-#[derive(Drop)]
+#[derive(Clone, Copy, Debug, PartialEq, Eq)]
 pub struct RewardRatios {
     pub self_reward_ratio: Ratio,
     pub other_reward_ratio: Ratio,
 }
 
 // Each side's eligible amount, and its ratio to the side's total.
-#[derive(Drop)]
+#[derive(Clone, Copy, Debug, PartialEq, Eq)]
 pub struct EligibleDelegationData {
     pub self_eligible_delegation: Amount,
     pub other_eligible_delegation: Amount,
     pub reward_ratios: RewardRatios,
 }
 
-fn smaller(a: u64, b: u64) -> u64
-    ensures { result ≡ min a b }
-{
-    if a < b { a } else { b }
-}
-
 // The ratio of an eligible part to its total. A part that is none or all of it needs no division, and one of less than 2^44 no product of two words.
+#[tactic(auto, unfolding(crate::specs::Eligible::ratio_of, types::specs::Wide::fit_of))]
 fn reward_ratio(part: u64, total: u64) -> u64
     requires { part ≤ total }
     ensures { result ≡ ratio_of part total }
@@ -39,16 +34,11 @@ fn reward_ratio(part: u64, total: u64) -> u64
     if part < 0x1000_0000_0000 {
         return FRAC_64_MULTIPLIER * part / total;
     }
-    match types::mul_div::mul_div(FRAC_64_MULTIPLIER, part, total) {
-        MulDiv::Fits {
-            quotient,
-            remainder: _,
-        } => quotient,
-        MulDiv::DoesNotFit => 0,
-    }
+    quotient(FRAC_64_MULTIPLIER, part, total).unwrap()
 }
 
 impl EligibleDelegationData {
+    #[tactic(auto, unfolding(crate::specs::Eligible::self_eligible, crate::specs::Eligible::other_eligible, crate::specs::Eligible::eligible_of))]
     pub fn from_delegation_data(
         self_delegation: Amount,
         other_delegation: Amount,
@@ -57,8 +47,8 @@ impl EligibleDelegationData {
         ensures { result ≡ eligible_of publisher_cap.0 self_delegation.0 other_delegation.0 }
     {
         let cap = publisher_cap.0;
-        let self_eligible = smaller(cap, self_delegation.0);
-        let other_eligible = smaller(cap - self_eligible, other_delegation.0);
+        let self_eligible = cap.min(self_delegation.0);
+        let other_eligible = (cap - self_eligible).min(other_delegation.0);
         let self_ratio = reward_ratio(self_eligible, self_delegation.0);
         let other_ratio = reward_ratio(other_eligible, other_delegation.0);
         EligibleDelegationData {

@@ -1,5 +1,6 @@
-pub mod NextLaws
+pub mod RecordLaws
 pub mod GatherLaws
-pub mod TurnLaws
+pub mod ItemLaws
+pub mod NinesLaws
 pub mod ReadLaws
 pub mod Fixed

@@ -1,5 +1,5 @@
 -- Item 8's bounds of the read count, and what an answer's amounts are, for every E, image and list of positions. Assumes nothing.
-use mathlib.Core.Path.{◌≡◌, refl, sym, ◌∙◌}
+use mathlib.Core.Path.{◌≡◌, refl}
 use mathlib.Core.Bool.{Bool, true, false}
 use mathlib.Core.List.{List}
 use Prim.Native.Nat.{ℕ, ◌*◌, ◌/◌, ◌<◌, ◌≤◌}
@@ -16,7 +16,7 @@ use Rattle.image.specs.Layout.{Words}
 use Rattle.event_walk.specs.declared.EventAmounts.{EventAmounts}
 use Rattle.event_walk.specs.Walk.{walk_meets, walk_reads, drawn_at, slot_amount, reads_of}
 use Rattle.event_walk.proofs.WalkLaws.{length_le, meets_le, reads_le}
-use Rattle.event_amounts.specs.Gathered.{GatheredOf}
+use Rattle.event_amounts.specs.Gathered.{Gathers}
 use Rattle.event_amounts.proofs.GatherLaws.{drawn_none, slot_fits_law}
 
 module _ (E : ℕ) (w : Words) (words : List ℕ) (publisher : Key) (from : ℕ) where
@@ -54,11 +54,11 @@ module _ (E : ℕ) (w : Words) (words : List ℕ) (publisher : Key) (from : ℕ)
               count_none f,
             )
 
-    -- the amounts of an answer that fits are the sums over the positions, and each is a word
-    pub slot_sum : (r : EventAmounts) → GatheredOf E w words publisher from unlocking r → r.fits ≡ true → (k : ℕ) → k < walk_meets E w from
+    -- the amounts of an answer are the sums over the positions, and each is a word
+    pub slot_sum : (r : EventAmounts) → Gathers E w words publisher from unlocking r → (k : ℕ) → k < walk_meets E w from
         → (get_or r.amounts k 0 ≡ sum_below (length words / 9) (drawn_at E w words publisher unlocking k)) × (get_or r.amounts k 0 < word)
     unfolding slot_amount
-    slot_sum r g e k h =
+    slot_sum r g k h =
         let q : get_or r.amounts k 0 ≡ sum_below (length words / 9) (drawn_at E w words publisher unlocking k)
-        = rw (lt-ltb k (walk_meets E w from) h) at (g.amounts e k) in
-        (q, rw (g.amounts e k) (slot_fits_law E w words publisher from unlocking k (sym g.fits ∙ e) h))
+        = rw (lt-ltb k (walk_meets E w from) h) at (g.amounts k) in
+        (q, rw (g.amounts k) (slot_fits_law E w words publisher from unlocking k g.fits h))

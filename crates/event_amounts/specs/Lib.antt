@@ -1,2 +1,2 @@
+pub mod Records
 pub mod Gathered
-pub mod Turns

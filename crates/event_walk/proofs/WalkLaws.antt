@@ -1,16 +1,13 @@
 -- The events that a walk comes to: how many, in which ring slots, and which are not too old; one law for each way out of the code. Assumes nothing.
 use mathlib.Core.Path.{◌≡◌, sym, ap, ◌∙◌}
-use mathlib.Core.List.{List}
 use Prim.Native.Nat.{ℕ, suc, ◌+◌, ◌-◌, ◌%◌, ◌≤◌, ◌<◌}
 use native.Mathlib.Nat.{mod-lt, mod_self, mod-eq_of_lt, suc-mod, sub-zero, min-le_left, min-le_right, min-eq_left, min-eq_right}
 use native.Mathlib.Decide.{ℕ_discrete}
 use native.Mathlib.Omega.{arith}
 use lib.Dec.{ltb}
-use lib.ListN.{get_or}
 use borrow.Author.Tests.{eq-eqb, ne_eqb, lt-ltb}
 use Rattle.types.proofs.Below.{NoneBelow, first_at, first_none, first_le}
-use Rattle.image.specs.Layout.{num_events, event_epoch, head, slot, Words, event_at, num_events_at, read}
-use Rattle.image.proofs.SeatLaws.{read_at}
+use Rattle.image.specs.Layout.{num_events, event_epoch, head, slot, Words}
 use Rattle.event_walk.specs.Walk.{walk_length, walk_slot, walk_epoch, walk_meets, walk_reads}
 use Rattle.event_walk.specs.Walked.{slot_before}
 
@@ -53,14 +50,6 @@ slot_from E w k = (w (head num_events) - k) % E
 module _ (E : ℕ) (w : Words) where
   -- ---- how many events a walk comes to
 
-  pub length_few : (n : ℕ) → n ≡ w (head num_events) → n < E → n ≡ walk_length E w
-  unfolding walk_length
-  length_few n q l = let b : w (head num_events) ≤ E = omega arith in q ∙ sym (min-eq_left b)
-
-  pub length_full : (n : ℕ) → n ≡ w (head num_events) → E ≤ n → E ≡ walk_length E w
-  unfolding walk_length
-  length_full n q l = let b : E ≤ w (head num_events) = omega arith in sym (min-eq_right b)
-
   pub length_le : walk_length E w ≤ E
   unfolding walk_length
   length_le = min-le_right (w (head num_events)) E
@@ -70,6 +59,10 @@ module _ (E : ℕ) (w : Words) where
   length_count = min-le_left (w (head num_events)) E
 
   -- ---- the slots, by stepping back
+
+  pub slot_start : w (head num_events) % E ≡ slot_from E w 0
+  unfolding slot_from
+  slot_start = ap (λ (n : ℕ). n % E) (sym (sub-zero _))
 
   pub slot_back : (k t before : ℕ) → 0 < E → k < walk_length E w → t ≡ slot_from E w k → before ≡ slot_before E t → before ≡ walk_slot E w k
   unfolding walk_slot slot_from
@@ -83,6 +76,10 @@ module _ (E : ℕ) (w : Words) where
   slot_kept k t q = let s : w (head num_events) - 1 - k ≡ w (head num_events) - (k + 1) = omega arith in q ∙ ap (λ (i : ℕ). i % E) s
 
   -- ---- the epochs, and how many are not too old
+
+  pub epoch_at : (k t epoch : ℕ) → t ≡ walk_slot E w k → epoch ≡ w (slot t event_epoch) → epoch ≡ walk_epoch E w k
+  unfolding walk_epoch
+  epoch_at k t epoch q r = r ∙ ap (λ (i : ℕ). w (slot i event_epoch)) q
 
   module _ (from : ℕ) where
     pub meets_at : (k : ℕ) → k < walk_length E w → NoneBelow (λ j. ltb (walk_epoch E w j) from) k → walk_epoch E w k < from → k ≡ walk_meets E w from
@@ -108,15 +105,3 @@ module _ (E : ℕ) (w : Words) where
     pub reads_le : walk_reads E w from ≤ walk_length E w
     unfolding walk_reads
     reads_le = min-le_right (suc (walk_meets E w from)) (walk_length E w)
-
--- ---- the words of an image
-
-module _ (P E : ℕ) (img : List ℕ) where
-  pub slot_start : (at : ℕ) → at ≡ num_events_at P E → get_or img at 0 % E ≡ slot_from E (read P E img) 0
-  unfolding slot_from
-  slot_start at q = ap (λ (n : ℕ). n % E) (read_at P E img (head num_events) at q ∙ sym (sub-zero _))
-
-  -- an event's first word is its epoch
-  pub epoch_at : (k t at : ℕ) → t ≡ walk_slot E (read P E img) k → at ≡ event_at P t → get_or img at 0 ≡ walk_epoch E (read P E img) k
-  unfolding walk_epoch
-  epoch_at k t at q r = read_at P E img (slot t event_epoch) at (omega arith) ∙ ap (λ (s : ℕ). read P E img (slot s event_epoch)) q

@@ -1,83 +1,60 @@
 // Item 8: the walk of one position over the newest events.
 #![tactic(auto)]
 
-ghost use Rattle.std.specs.Prelude.{◌≡◌, true, ℕ, ◌+◌, ◌≤◌, ◌<◌, get_or};
+ghost use Rattle.std.specs.Prelude.{◌≡◌, ℕ, ◌+◌, ◌≤◌, ◌<◌, get_or};
 ghost use Rattle.types.specs.Base.{word};
-ghost use Rattle.event_walk.specs.Span.{units_in};
-ghost use Rattle.event_walk.specs.Walked.{WalkedOf, AddedOf};
+ghost use Rattle.event_walk.specs.Walked.{no_amounts, Walked, WalkedOf};
+
+use crate::newest::Newest;
+use crate::span::Span;
+use image::MAX_EVENTS;
 
 pub mod newest;
 pub mod span;
 
-// The Rust's event_amounts, one for each ring slot in the order in which walks come to them, and how many events have been read. Where
-// something did not fit, the numbers say nothing.
-#[derive(Clone, Copy)]
+// The Rust's event_amounts, one for each ring slot in the order in which walks come to them, and how many events have been read.
+#[derive(Clone, Copy, Debug, PartialEq, Eq)]
 pub struct EventAmounts {
-    pub fits: bool,
-    pub amounts: [u64; 52],
+    pub amounts: [u64; MAX_EVENTS],
     pub reads: usize,
 }
 
-// What is added in an epoch.
-fn units_in(epoch: u64, amount: u64, first: u64, last: u64) -> u64
-    ensures { result ≡ units_in amount first last epoch }
-{
-    if epoch < first {
-        return 0;
-    }
-    if last < epoch {
-        return 0;
-    }
-    amount
-}
-
-// One position's walk: its amount is added for each event met whose epoch is from `first` to `last`.
-pub fn walk(
-    epochs: &[u64; 52],
-    meets: usize,
-    reads: usize,
-    amount: u64,
-    first: u64,
-    last: u64,
-    start: EventAmounts,
-) -> EventAmounts
-    requires { (meets ≤ 52) × (start.fits ≡ true) × (start.reads + reads < word) }
-    ensures { WalkedOf epochs.now meets reads amount first last start result }
-{
-    let mut walked = start;
-    let mut k = 0;
-    while k < meets {
-        let units = units_in(epochs[k], amount, first, last);
-        let held = walked.amounts[k];
-        if u64::MAX - units < held {
-            walked.fits = false;
-            return walked;
+impl EventAmounts {
+    // No walk yet.
+    pub fn new() -> EventAmounts
+        ensures { result ≡ no_amounts }
+    {
+        EventAmounts {
+            amounts: [0; MAX_EVENTS],
+            reads: 0,
         }
-        walked.amounts[k] = held + units;
-        k += 1;
     }
-    walked.reads = walked.reads + reads;
-    walked
-}
 
-// The same where no amount can pass 64 bits: the array alone, which is not copied between walks that follow each other.
-pub fn walk_fitting(
-    epochs: &[u64; 52],
-    meets: usize,
-    amount: u64,
-    first: u64,
-    last: u64,
-    start: [u64; 52],
-) -> [u64; 52]
-    requires { (meets ≤ 52) × ((k : ℕ) → get_or start k 0 + amount < word) }
-    ensures { AddedOf epochs.now meets amount first last start result }
-{
-    let mut amounts = start;
-    let mut j = 0;
-    while j < meets {
-        let units = units_in(epochs[j], amount, first, last);
-        amounts[j] = amounts[j] + units;
-        j += 1;
+    // One position's walk: its span is added in each event met, where every sum fits.
+    #[tactic(auto, using(crate::proofs::AmountLaws::sums))]
+    pub fn walk(mut self, newest: &Newest, span: Span) -> Option<EventAmounts>
+        requires { self.reads + newest.now.reads < word }
+        ensures { WalkedOf newest.now span self result }
+    {
+        let epochs = newest.epochs.as_slice();
+        for (k, epoch) in epochs.iter().enumerate() {
+            self.amounts[k] = self.amounts[k].checked_add(span.units_in(*epoch))?;
+        }
+        self.reads += newest.reads;
+        Some(self)
     }
-    amounts
+
+    // The same where no amount can pass 64 bits. Nothing is tested, and the array is not copied.
+    #[tactic(auto, using(crate::proofs::AmountLaws::sums))]
+    pub fn walk_fitting(&mut self, newest: &Newest, span: Span)
+        requires room { (k : ℕ) → get_or self.old.amounts k 0 + span.amount < word }
+        requires reads { self.old.reads + newest.now.reads < word }
+        ensures { Walked newest.now span self.old self.new }
+    {
+        let epochs = newest.epochs.as_slice();
+        for (j, epoch) in epochs.iter().enumerate() {
+            self.amounts[j] += span.units_in(*epoch);
+        }
+        self.reads += newest.reads;
+    }
 }

@@ -1,88 +1,60 @@
 // The epochs in which a position adds to events.
-ghost use Rattle.std.specs.Prelude.{◌≡◌, ◌+◌, ◌≤◌, ◌<◌};
-ghost use Rattle.types.specs.Base.{word};
-ghost use Rattle.event_walk.specs.Span.{any_activated, ReachOf};
+ghost use Rattle.std.specs.Prelude.{◌≡◌};
+ghost use Rattle.event_walk.specs.Span.{units_in, SpanOf};
+ghost use Rattle.event_walk.specs.Walked.{epochs_of};
 
+use crate::newest::Newest;
 use positions::position::Position;
 
-// The same amount in each epoch from the first to the last.
-#[derive(Drop)]
+// The same amount in each epoch from the first to the last. The default adds nothing.
+#[derive(Clone, Copy, Debug, Default, PartialEq, Eq)]
 pub struct Span {
     pub amount: u64,
     pub first: u64,
     pub last: u64,
 }
 
-// What a position adds to the events that its walk meets, or that its state does not fit in one of them.
-#[derive(Drop)]
-pub enum Reach {
-    Draws(Span),
-    DoesNotFit,
-}
-
-// Whether one of the events is at or behind the activation.
-fn any_activated(epochs: &[u64; 52], meets: usize, activation: u64) -> bool
-    requires { meets ≤ 52 }
-    ensures { result ≡ any_activated epochs.now meets activation }
-{
-    let mut k = 0;
-    while k < meets {
-        if activation <= epochs[k] {
-            return true;
+impl Span {
+    // What is added in an epoch.
+    #[tactic(auto, unfolding(crate::specs::Span::units_in))]
+    pub fn units_in(self, epoch: u64) -> u64
+        ensures { result ≡ units_in self epoch }
+    {
+        if self.first <= epoch && epoch <= self.last {
+            self.amount
+        } else {
+            0
         }
-        k += 1;
     }
-    false
 }
 
-// A position whose end of unlocking does not fit adds nothing where no event is at or behind its activation.
-fn unfit(epochs: &[u64; 52], meets: usize, position: Position, unlocking_duration: u64) -> Reach
-    requires { (meets ≤ 52) × (position.start_flag ≡ 1) × (word ≤ position.unlocking_start.0 + unlocking_duration) }
-    ensures { ReachOf epochs.now meets position unlocking_duration result }
-{
-    let activated = any_activated(epochs, meets, position.activation_epoch.0);
-    if activated {
-        return Reach::DoesNotFit;
-    }
-    Reach::Draws(Span {
-        amount: 0,
-        first: 1,
-        last: 0,
-    })
-}
-
-// From the activation to the epoch in front of the start, if there is one.
-pub fn span_of(
-    epochs: &[u64; 52],
-    meets: usize,
-    position: Position,
-    unlocking_duration: u64,
-) -> Reach
-    requires { meets ≤ 52 }
-    ensures { ReachOf epochs.now meets position unlocking_duration result }
+// What a position adds to the newest events, or that its state does not fit in one of
+// them: from the activation to the epoch in front of the start, if there is one.
+#[tactic(auto, using(crate::proofs::SpanLaws::spans))]
+pub fn span_of(newest: &Newest, position: Position, unlocking_duration: u64) -> Option<Span>
+    ensures { SpanOf (epochs_of newest.now) position unlocking_duration result }
 {
     let amount = position.amount.0;
     let first = position.activation_epoch.0;
-    let flag = position.start_flag;
-    let start = position.unlocking_start.0;
-    if flag != 1 {
-        return Reach::Draws(Span {
+    if position.start_flag != 1 {
+        return Some(Span {
             amount,
             first,
             last: u64::MAX,
         });
     }
-    if u64::MAX - unlocking_duration < start {
-        return unfit(epochs, meets, position, unlocking_duration);
+    let start = position.unlocking_start.0;
+    if start.checked_add(unlocking_duration).is_none() {
+        let epochs = newest.epochs.as_slice();
+        if epochs.iter().any(|epoch| first <= *epoch) {
+            return None;
+        }
+        return Some(Span::default());
     }
     if start == 0 {
-        return Reach::Draws(Span {
-            amount: 0,
-            first: 1,
-            last: 0,
-        });
+        return Some(Span::default());
     }
-    Reach::Draws(Span {
+    Some(Span {
         amount,
         first,
         last: start - 1,

@@ -6,13 +6,15 @@ use integrity_pool::payment::{Claim, DelegationRecord};
 use integrity_pool::slash::Slashing;
 use integrity_pool::stake_account::StakeAccounts;
 use pool::changes::Delegation;
-use positions::{Key, OptionKey};
+use positions::Key;
 use types::{Amount, Epoch};
 
-// P and E. The words below are those of such an image.
+// P and E, and the words of such an image, which are those below.
 pub const P: usize = 2;
 
 pub const E: usize = 4;
+
+pub type Image = [u64; 91];
 
 // A side is its total and its change; the side and the account are the first seat's, the event the first slot's.
 pub const OTHER_SIDE: usize = 10;
@@ -34,7 +36,7 @@ pub const OLD: Key = Key(5, 0, 0, 0);
 
 pub const NEW: Key = Key(6, 0, 0, 0);
 
-pub const AUTHORITY: Key = Key(8, 0, 0, 0);
+const AUTHORITY: Key = Key(8, 0, 0, 0);
 
 pub const OWNER: Key = Key(3, 0, 0, 0);
 
@@ -43,7 +45,7 @@ pub const THIRD: Key = Key(4, 0, 0, 0);
 pub const ZERO: Key = Key(0, 0, 0, 0);
 
 // Last epoch 9, claimable 7, and one publisher, who has no stake account.
-pub fn seated() -> [u64; 91] {
+pub fn seated() -> Image {
     let mut pool = [0; 91];
     pool[0] = 9;
     pool[1] = 7;
@@ -52,24 +54,24 @@ pub fn seated() -> [u64; 91] {
 }
 
 // The same, and the publisher has the old account.
-pub fn with_account() -> [u64; 91] {
+pub fn with_account() -> Image {
     let mut pool = seated();
     pool[STAKE_ACCOUNT] = OLD.0;
     pool
 }
 
 // Both sides of the publisher have this total and change.
-pub fn staked(total: u64, change: u64) -> [u64; 91] {
+pub fn staked(total: u64, change: i64) -> Image {
     let mut pool = seated();
-    pool[OTHER_SIDE] = total;
-    pool[OTHER_SIDE + 1] = change;
-    pool[SELF_SIDE] = total;
-    pool[SELF_SIDE + 1] = change;
+    for side in [OTHER_SIDE, SELF_SIDE] {
+        pool[side] = total;
+        pool[side + 1] = change.cast_unsigned();
+    }
     pool
 }
 
 // Nothing is claimable, and epoch 8 has an event with y 10,000, ratio 500,000, fee 200,000.
-pub fn earning() -> [u64; 91] {
+pub fn earning() -> Image {
     let mut pool = seated();
     pool[1] = 0;
     pool[EVENT] = 8;
@@ -81,27 +83,26 @@ pub fn earning() -> [u64; 91] {
 }
 
 // An event whose y is 10,000 and whose self ratio is 1,000,000.
-fn with_event(before: [u64; 91], at: usize, epoch: u64, ratio: u64, fee: u64) -> [u64; 91]
+fn set_event(pool: &mut Image, at: usize, epoch: u64, ratio: u64, fee: u64)
     requires { at + 12 ≤ 91 }
 {
-    let mut pool = before;
     pool[at] = epoch;
     pool[at + 1] = 10_000;
     pool[at + 9] = 1_000_000;
     pool[at + 10] = ratio;
     pool[at + 11] = fee;
-    pool
 }
 
 // 1,000,000 is claimable. Epochs 8, 7 and 6 have events, the newest in the first slot and the others around the ring; that of epoch 5 has no y.
-pub fn paying() -> [u64; 91] {
+pub fn paying() -> Image {
     let mut pool = seated();
     pool[1] = 1_000_000;
     pool[EVENT + 15] = 5;
     pool[NUM_EVENTS] = 5;
-    pool = with_event(pool, EVENT, 8, 500_000, 200_000);
-    pool = with_event(pool, EVENT + 45, 7, 250_000, 100_000);
-    with_event(pool, EVENT + 30, 6, 1_000_000, 200_000)
+    set_event(&mut pool, EVENT, 8, 500_000, 200_000);
+    set_event(&mut pool, EVENT + 45, 7, 250_000, 100_000);
+    set_event(&mut pool, EVENT + 30, 6, 1_000_000, 200_000);
+    pool
 }
 
 // One position in the publisher, without a start.
@@ -109,43 +110,32 @@ pub fn position(kind: u64, amount: u64) -> [u64; 9] {
     [kind, amount, 0, 0, 0, PUBLISHER.0, 0, 0, 0]
 }
 
-fn byte(n: u64) -> u8 {
-    (n % 256) as u8
-}
-
-// A caps message without rows. Its time is below 2^24.
+// A caps message of this time, without rows.
 pub fn message(time: u64) -> [u8; 11] {
-    let high = byte(time / 65536);
-    let middle = byte(time / 256);
-    let low = byte(time);
-    [0, 0, 0, 0, 0, 0, high, middle, low, 0, 0]
+    let mut bytes = [0; 11];
+    bytes[1..9].copy_from_slice(&time.to_be_bytes());
+    bytes
 }
 
-pub fn given(now: u64, y: u64, custody: u64, seconds: u64, flag: u64) -> Given {
-    Given {
-        current_epoch: now,
-        y,
-        pool_reward_custody_balance: custody,
-        epoch_duration: seconds,
-        is_verified: flag,
-    }
-}
+// What an accepted advance or forecast is given.
+pub const RIGHT: Given = Given {
+    current_epoch: 12,
+    y: 10_000,
+    pool_reward_custody_balance: 7,
+    epoch_duration: 604_800,
+    is_verified: 1,
+};
 
 fn record_at(epoch: u64, next: u64) -> DelegationRecord {
-    DelegationRecord {
-        last_epoch: Epoch(epoch),
-        next_slash_event_index: next,
-    }
+    DelegationRecord::from([epoch, next])
 }
 
 // A payment from epoch 8 on.
-pub fn claim(publisher: Key, account: OptionKey, flag: u64, now: u64) -> Claim {
-    let found = record_at(8, 0);
-    let own = ACCOUNT;
+pub fn claim(publisher: Key, account: Option<Key>, flag: u64, now: u64) -> Claim {
     Claim {
-        delegation_record: found,
+        delegation_record: record_at(8, 0),
         publisher,
-        stake_account_positions: own,
+        stake_account_positions: ACCOUNT,
         publisher_stake_account_positions: account,
         publisher_stake_account_custody: flag,
         current_epoch: now,
@@ -154,17 +144,11 @@ pub fn claim(publisher: Key, account: OptionKey, flag: u64, now: u64) -> Claim {
 }
 
 // A payment in epoch 9 to an account whose record is at this epoch, with an account for the publisher's part.
-pub fn claim_since(epoch: u64, own: Key, account: OptionKey) -> Claim {
-    let found = record_at(epoch, 3);
-    let publisher = PUBLISHER;
+pub fn claim_since(epoch: u64, own: Key, account: Option<Key>) -> Claim {
     Claim {
-        delegation_record: found,
-        publisher,
+        delegation_record: record_at(epoch, 3),
         stake_account_positions: own,
-        publisher_stake_account_positions: account,
-        publisher_stake_account_custody: 1,
-        current_epoch: 9,
-        unlocking_duration: 1,
+        ..claim(PUBLISHER, account, 1, 9)
     }
 }
 
@@ -178,9 +162,8 @@ pub fn delegation(publisher: Key, account: Key, now: u64) -> Delegation {
 
 // 4 locked and 2 preunlocking, by a record at this epoch and next index.
 pub fn slashing(whose: Delegation, record: u64, next: u64, index: u64, event: u64) -> Slashing {
-    let found = record_at(record, next);
     Slashing {
-        delegation_record: found,
+        delegation_record: record_at(record, next),
         delegation: whose,
         index,
         slash_event_epoch: Epoch(event),
@@ -189,15 +172,13 @@ pub fn slashing(whose: Delegation, record: u64, next: u64, index: u64, event: u6
     }
 }
 
-pub fn accounts(publisher: Key, signer: Key, old: OptionKey, new: OptionKey) -> StakeAccounts {
-    let authority = AUTHORITY;
-    let owner = OWNER;
+pub fn accounts(publisher: Key, signer: Key, old: Option<Key>, new: Option<Key>) -> StakeAccounts {
     StakeAccounts {
         publisher,
         signer,
-        reward_program_authority: authority,
+        reward_program_authority: AUTHORITY,
         current_stake_account_positions: old,
-        current_owner: owner,
+        current_owner: OWNER,
         new_stake_account_positions: new,
     }
 }

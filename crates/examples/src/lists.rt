@@ -1,107 +1,77 @@
 // Payments over lists of records that the table does not have: accepted ones, and those that 4 and 13 turn back.
-ghost use Rattle.std.specs.Prelude.{◌+◌, ◌≤◌};
+ghost use Rattle.std.specs.Prelude.{◌≤◌};
 
-use crate::forms;
-use crate::given::{
-    ACCOUNT, OLD, P, PUBLISHER, STAKE_ACCOUNT, THIRD, claim_since, paying, position,
-};
-use positions::OptionKey;
-use std::io::Stdout;
+use crate::calls::Row;
+use crate::given::{ACCOUNT, OLD, PUBLISHER, STAKE_ACCOUNT, THIRD, claim_since, paying, position};
+use std::io::{self, Stdout};
 
 // Epoch 8 is paid, and the publisher has no account.
-fn list(to: Stdout, row: &[u8], words: &[u64]) {
-    let claim = claim_since(8, ACCOUNT, OptionKey::None);
-    forms::payment(to, row, P, paying(), words, claim);
+fn list<const N: usize>(to: Stdout, name: &str, positions: [[u64; 9]; N]) -> io::Result<()>
+    requires { N ≤ 257 }
+{
+    Row::new(to, name, paying()).lent_payment(&positions, &claim_since(8, ACCOUNT, None))
 }
 
 // Epoch 8 pays 5,000 to each 1,000,000: 1,000 of it to the publisher.
-pub fn short(to: Stdout) {
-    list(to, b"list, no record", &[]);
-    list(to, b"list, one record", &position(2, 1_000_000));
+pub fn short(to: Stdout) -> io::Result<()> {
+    list(to, "list, no record", [])?;
+    list(to, "list, one record", [position(2, 1_000_000)])?;
     let other = [2, 1_000_000, 0, 0, 0, THIRD.0, 0, 0, 0];
-    list(to, b"list, another publisher", &other);
+    list(to, "list, another publisher", [other])
 }
 
-// 257 positions of 1,000.
-fn full() -> [u64; 2313] {
-    let mut words = [0; 2313];
-    let mut i = 0;
-    while i < 257 {
-        let at = i * 9;
-        words[at] = 2;
-        words[at + 1] = 1_000;
-        words[at + 5] = PUBLISHER.0;
-        i += 1;
-    }
-    words
-}
-
-pub fn long(to: Stdout) {
-    let words = full();
-    list(to, b"list, 256 records", &words[0..2304]);
-    list(to, b"list, 257 records", &words);
-}
-
-// One record of three.
-fn with_record(before: [u64; 27], at: usize, kind: u64, flag: u64) -> [u64; 27]
-    requires { at + 9 ≤ 27 }
-{
-    let mut words = before;
-    words[at] = kind;
-    words[at + 1] = 1_000_000;
-    words[at + 3] = flag;
-    words[at + 5] = PUBLISHER.0;
-    words
+// Positions of 1,000.
+pub fn long(to: Stdout) -> io::Result<()> {
+    list(to, "list, 256 records", [position(2, 1_000); 256])?;
+    list(to, "list, 257 records", [position(2, 1_000); 257])
 }
 
 // The first record is empty, so that its flag is not read, and the second is voting.
-pub fn kinds(to: Stdout) {
-    let row: &[u8] = b"list, one empty, one voting, one in this publisher";
-    let empty = with_record([0; 27], 0, 0, 7);
-    let voting = with_record(empty, 9, 1, 0);
-    list(to, row, &with_record(voting, 18, 2, 0));
+pub fn kinds(to: Stdout) -> io::Result<()> {
+    let empty = [0, 1_000_000, 0, 7, 0, PUBLISHER.0, 0, 0, 0];
+    let positions = [empty, position(1, 1_000_000), position(2, 1_000_000)];
+    list(
+        to,
+        "list, one empty, one voting, one in this publisher",
+        positions,
+    )
 }
 
 // 4 and 13. All records are looked at for 4 before one's end of unlocking is 13.
-pub fn refused(to: Stdout) {
-    let row: &[u8] = b"list, end of unlocking past 64 bits, then kind 3";
-    let key = PUBLISHER.0;
-    let end = u64::MAX;
-    let flag = [2, 200, 0, 2, 0, key, 0, 0, 0];
-    list(to, b"list, start flag 2", &flag);
-    let unfit = [2, 200, 0, 1, end, key, 0, 0, 0];
-    list(to, b"list, end of unlocking past 64 bits", &unfit);
-    let then_kind = [2, 200, 0, 1, end, key, 0, 0, 0, 3, 0, 0, 0, 0, 0, 0, 0, 0];
-    list(to, row, &then_kind);
+pub fn refused(to: Stdout) -> io::Result<()> {
+    let flag = [2, 200, 0, 2, 0, PUBLISHER.0, 0, 0, 0];
+    list(to, "list, start flag 2", [flag])?;
+    let unfit = [2, 200, 0, 1, u64::MAX, PUBLISHER.0, 0, 0, 0];
+    list(to, "list, end of unlocking past 64 bits", [unfit])?;
+    let kind = [3, 0, 0, 0, 0, 0, 0, 0, 0];
+    list(
+        to,
+        "list, end of unlocking past 64 bits, then kind 3",
+        [unfit, kind],
+    )
 }
 
 // The publisher has an account, to which its part goes; then that account is the one that is paid.
-pub fn accounts(to: Stdout) {
-    let row: &[u8] = b"list, of the publisher's own account";
+pub fn accounts(to: Stdout) -> io::Result<()> {
     let mut pool = paying();
     pool[STAKE_ACCOUNT] = OLD.0;
-    let words = position(2, 1_000_000);
-    let account = OptionKey::Some(OLD);
-    let other = claim_since(8, ACCOUNT, account);
-    forms::payment(
-        to,
-        b"list, with a publisher account",
-        P,
-        pool,
-        &words,
-        other,
-    );
-    let own = claim_since(8, OLD, account);
-    forms::payment(to, row, P, pool, &words, own);
+    let positions = [position(2, 1_000_000)];
+    let other = claim_since(8, ACCOUNT, Some(OLD));
+    Row::new(to, "list, with a publisher account", pool).lent_payment(&positions, &other)?;
+    let own = claim_since(8, OLD, Some(OLD));
+    Row::new(to, "list, of the publisher's own account", pool).lent_payment(&positions, &own)
 }
 
 // Three epochs are paid. The second list's record is LOCKING in the first of them and UNLOCKING in the last.
-pub fn epochs(to: Stdout) {
-    let row: &[u8] = b"list, epochs 6 to 8, active from 7, unlocking from 8";
-    let pool = paying();
-    let claim = claim_since(6, ACCOUNT, OptionKey::None);
+pub fn epochs(to: Stdout) -> io::Result<()> {
+    let claim = claim_since(6, ACCOUNT, None);
     let locked = position(2, 1_000_000);
-    forms::payment(to, b"list, epochs 6 to 8", P, pool, &locked, claim);
+    Row::new(to, "list, epochs 6 to 8", paying()).lent_payment(&[locked], &claim)?;
     let unlocking = [2, 1_000_000, 7, 1, 8, PUBLISHER.0, 0, 0, 0];
-    forms::payment(to, row, P, pool, &unlocking, claim);
+    Row::new(
+        to,
+        "list, epochs 6 to 8, active from 7, unlocking from 8",
+        paying(),
+    )
+    .lent_payment(&[unlocking], &claim)
 }

@@ -10,12 +10,15 @@ mod lists;
 mod rows;
 mod tell;
 
+use calls::Row;
 use given::{
-    ACCOUNT, E, OTHER_SIDE, P, PUBLISHER, SELF_SIDE, ZERO, delegation, seated, slashing, staked,
+    ACCOUNT, E, Image, OTHER_SIDE, P, PUBLISHER, SELF_SIDE, ZERO, delegation, seated, slashing,
+    staked,
 };
-use integrity_pool::slash::{SlashAnswer, Slashing, slash};
+use integrity_pool::slash::{Slashing, slash};
 use positions::Key;
-use std::io::Stdout;
+use std::io::{self, Stdout};
+use std::process::ExitCode;
 
 // The example's slash, of this account.
 fn slashing_of(account: Key) -> Slashing {
@@ -23,72 +26,67 @@ fn slashing_of(account: Key) -> Slashing {
 }
 
 // What it leaves.
-fn slashed(account: Key) -> [u64; 91] {
-    let mut pool = staked(10, u64::MAX - 2);
-    slash(&mut pool, P, E, slashing_of(account));
+fn slashed(account: Key) -> Image {
+    let mut pool = staked(10, -3);
+    let _ = slash(&mut pool, P, E, &slashing_of(account));
     pool
 }
 
+// A line for a side's two words.
+fn side(to: Stdout, name: &str, which: &str, total: u64, change: u64) -> io::Result<()> {
+    let change = change.cast_signed();
+    println!(to; "{name}{which}: total {total}, change {change}")
+}
+
 // The account is not the publisher's own; then it is, both keys zero.
-fn slash_sides(to: Stdout) {
-    let example: &[u8] = b"slash 4 locked, 2 preunlocking on total 10, change -3";
+fn slash_sides(to: Stdout) -> io::Result<()> {
+    let name = "slash 4 locked, 2 preunlocking on total 10, change -3";
     let other = slashed(ACCOUNT);
-    tell::side(to, example, b"", other[OTHER_SIDE], other[OTHER_SIDE + 1]);
-    forms::slash(
-        to,
-        example,
-        P,
-        staked(10, u64::MAX - 2),
-        slashing_of(ACCOUNT),
-    );
+    side(to, name, "", other[OTHER_SIDE], other[OTHER_SIDE + 1])?;
+    Row::new(to, name, staked(10, -3)).lent_slash(&slashing_of(ACCOUNT))?;
     let own = slashed(ZERO);
-    tell::side(
-        to,
-        example,
-        b", self side",
-        own[SELF_SIDE],
-        own[SELF_SIDE + 1],
-    );
+    side(to, name, ", self side", own[SELF_SIDE], own[SELF_SIDE + 1])
 }
 
 // 'Next 2, index 5, event 7.'
-fn next_index(to: Stdout, example: &[u8], now: u64) {
+fn next_index(to: Stdout, name: &str, now: u64) -> io::Result<()> {
     let before = seated();
     let mut pool = before;
     let slashing = slashing(delegation(PUBLISHER, ACCOUNT, now), now, 2, 5, 7);
-    tell::text(to, example);
-    match slash(&mut pool, P, E, slashing) {
-        SlashAnswer::Slashed(kept) => {
-            tell::text(to, b": next ");
-            tell::number(to, kept.next_slash_event_index);
-        }
-        SlashAnswer::Refused(k) => {
-            tell::text(to, b": refusal ");
-            tell::number(to, k);
-        }
+    let answer = slash(&mut pool, P, E, &slashing);
+    let change = tell::change(&before, &pool);
+    match answer {
+        Ok(kept) => println!(to; "{name}: next {}, {change}", kept.next_slash_event_index)?,
+        Err(refusal) => println!(to; "{name}: refusal {}, {change}", u64::from(refusal))?,
     }
-    tell::image(to, &before, &pool);
-    forms::slash(to, example, P, before, slashing);
+    Row::new(to, name, before).lent_slash(&slashing)
 }
 
-fn main(rt: HostRuntime) {
-    let to = rt.stdout();
-    slash_sides(to);
-    next_index(to, b"next 2, index 5, event 7, now 8", 8);
-    next_index(to, b"next 2, index 5, event 7, now 7", 7);
-    rows::image(to);
-    rows::inputs(to);
-    rows::position_lists(to);
-    rows::advances(to);
-    rows::publishers(to);
-    rows::sums(to);
-    rows::stakes(to);
-    rows::slashes(to);
-    rows::stake_accounts(to);
-    lists::short(to);
-    lists::long(to);
-    lists::kinds(to);
-    lists::refused(to);
-    lists::accounts(to);
-    lists::epochs(to);
+fn run(to: Stdout) -> io::Result<()> {
+    slash_sides(to)?;
+    next_index(to, "next 2, index 5, event 7, now 8", 8)?;
+    next_index(to, "next 2, index 5, event 7, now 7", 7)?;
+    rows::image(to)?;
+    rows::inputs(to)?;
+    rows::position_lists(to)?;
+    rows::advances(to)?;
+    rows::publishers(to)?;
+    rows::sums(to)?;
+    rows::stakes(to)?;
+    rows::slashes(to)?;
+    rows::stake_accounts(to)?;
+    lists::short(to)?;
+    lists::long(to)?;
+    lists::kinds(to)?;
+    lists::refused(to)?;
+    lists::accounts(to)?;
+    lists::epochs(to)
+}
+
+// Status 1 where a line could not be written.
+fn main(rt: HostRuntime) -> ExitCode {
+    match run(rt.stdout()) {
+        Ok(()) => ExitCode::SUCCESS,
+        Err(_) => ExitCode::FAILURE,
+    }
 }

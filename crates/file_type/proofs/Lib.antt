@@ -1,2 +1,0 @@
-pub mod PathLaws
-pub mod ToldLaws

@@ -1,114 +1,58 @@
--- Laws of words and their bytes; what is given as bytes is taken back as the same words. Assumes nothing.
-use mathlib.Core.Path.{◌≡◌, refl, sym, ap, ◌∙◌}
-use mathlib.Core.List.{List, [], ◌∷◌, ◌++◌, append_assoc}
-use Prim.Native.Nat.{ℕ, zero, suc, ◌+◌, ◌*◌, ◌/◌, ◌%◌, ◌^◌, ◌≤◌, ◌<◌}
-use native.Mathlib.Nat.{add-zero, mod-eq_of_lt}
-use native.Mathlib.Numerals.{add-one}
-use native.Mathlib.Omega.{arith}
-use lib.ListN.{length, get_or, take, set, length-append}
-use lib.Seq.{take-suc, take-suc-set, take_at, get_or-append-add}
+-- Laws of a file's bytes and its words: one word more. Assumes nothing.
+use Rattle.std.proofs.Common.{◌≡◌, ℕ, ◌+◌, ◌*◌, ◌<◌, List, zero, suc, refl, length, take, drop, get_or, set, arith, add-one, ap, ◌∙◌}
+use Rattle.std.proofs.lemmas.Slice.{take-put_mid}
+use Rattle.std.proofs.lemmas.List.{get_or-take, get_or-drop, drop-drop}
+use Rattle.std.proofs.Math.Seq.{take-suc-set}
+use Rattle.std.specs.Int.{to_le_bytes, from_le_bytes, w64}
+use Rattle.std.specs.Simd.{first_chunks}
+use borrow.Rule.Slice.PartMut.{put_mid}
 use Rattle.files.specs.Words.{word_at, words_of, eight, bytes_of}
 
--- ---- the loops
-
-pub words_none : (s : List ℕ) → [] ≡ words_of s 0
-unfolding words_of
-words_none s = refl
-
-pub words_more : (s out : List ℕ) (i w : ℕ) → i < length out → take i out ≡ words_of s i → w ≡ word_at s (i * 8)
-    → take (i + 1) (set out i w) ≡ words_of s (i + 1)
-unfolding words_of
-words_more s out i w h e q = rw (add-one i, take-suc-set out i w h, e, q)
-
-pub bytes_none : (l : List ℕ) → [] ≡ bytes_of l 0
-unfolding bytes_of
-bytes_none l = refl
-
-pub length_eight : (w : ℕ) → length (eight w) ≡ 8
+-- the bytes of a word
+eight_is : (w : ℕ) → to_le_bytes w64 w ≡ eight w
 unfolding eight
-length_eight w = refl
+eight_is w = refl
 
-pub length_bytes : (l : List ℕ) (n : ℕ) → length (bytes_of l n) ≡ n * 8
+pub bytes_more :
+    (l out new : List ℕ) (i k : ℕ) → take (i * 8) out ≡ bytes_of l i → i < length l → length out ≡ length l * 8 → new ≡ to_le_bytes w64 (get_or l i 0) →
+    take ((i + 1) * 8) (put_mid (i * 8) k out new) ≡ bytes_of l (i + 1)
 unfolding bytes_of
-length_bytes l zero = refl
-length_bytes l (suc n) = length-append (bytes_of l n) (eight (get_or l n 0)) ∙ omega (arith, length_bytes l n, length_eight (get_or l n 0))
+bytes_more l out new i k e h n q =
+    let r : new ≡ eight (get_or l i 0) = q ∙ eight_is (get_or l i 0) in
+    let m : length new ≡ 8 = ap length q in
+    rw (take-put_mid (i * 8) k out new ((i + 1) * 8) (omega arith) (omega arith), e, r, add-one i)
 
-pub bytes_more : (l front part back : List ℕ) (i : ℕ) → front ≡ bytes_of l i → part ≡ eight (get_or l i 0)
-    → take ((i + 1) * 8) (front ++ (part ++ back)) ≡ bytes_of l (i + 1)
-unfolding bytes_of
-bytes_more l front part back i e p =
-    let k : length (front ++ part) ≡ (i + 1) * 8 =
-    length-append front part ∙ omega (arith, ap length e, ap length p, length_bytes l i, length_eight (get_or l i 0)) in
-    ap (λ (r : List ℕ). take ((i + 1) * 8) r) (sym (append_assoc front part back)) ∙ take_at (front ++ part) back ((i + 1) * 8) k
-    ∙ rw (add-one i, e, p)
+-- the word of eight bytes
+word_sum :
+    (l : List ℕ) → from_le_bytes w64 l
+    ≡ get_or l 0 0 + get_or l 1 0 * 0x100 + get_or l 2 0 * 0x1_0000 + get_or l 3 0 * 0x100_0000 + get_or l 4 0 * 0x1_0000_0000
+    + get_or l 5 0 * 0x100_0000_0000 + get_or l 6 0 * 0x1_0000_0000_0000 + get_or l 7 0 * 0x100_0000_0000_0000
+word_sum l = refl
 
--- eight stores
-pub stored : (out : List ℕ) (w : ℕ) → length out ≡ 8
-    → set (set (set (set (set (set (set (set out 0 (w % 256)) 1 (w / 0x100 % 256)) 2 (w / 0x1_0000 % 256)) 3 (w / 0x100_0000 % 256))
-    4 (w / 0x1_0000_0000 % 256)) 5 (w / 0x100_0000_0000 % 256)) 6 (w / 0x1_0000_0000_0000 % 256)) 7 (w / 0x100_0000_0000_0000 % 256) ≡ eight w
-unfolding eight
-stored [] w l = absurd (omega arith)
-stored (a ∷ []) w l = absurd (omega arith)
-stored (a ∷ b ∷ []) w l = absurd (omega arith)
-stored (a ∷ b ∷ c ∷ []) w l = absurd (omega arith)
-stored (a ∷ b ∷ c ∷ d ∷ []) w l = absurd (omega arith)
-stored (a ∷ b ∷ c ∷ d ∷ e ∷ []) w l = absurd (omega arith)
-stored (a ∷ b ∷ c ∷ d ∷ e ∷ f ∷ []) w l = absurd (omega arith)
-stored (a ∷ b ∷ c ∷ d ∷ e ∷ f ∷ g ∷ []) w l = absurd (omega arith)
-stored (a ∷ b ∷ c ∷ d ∷ e ∷ f ∷ g ∷ h ∷ []) w l = refl
-stored (a ∷ b ∷ c ∷ d ∷ e ∷ f ∷ g ∷ h ∷ (i ∷ r)) w l = absurd (omega arith)
+word_is : (s : List ℕ) (at : ℕ) → from_le_bytes w64 (take 8 (drop at s)) ≡ word_at s at
+unfolding word_at
+word_is s at =
+    let r : (j k : ℕ) → j < 8 → k ≡ at + j → get_or (take 8 (drop at s)) j 0 ≡ get_or s k 0 =
+    λ j k h e. rw (get_or-take 8 (drop at s) j 0 h, get_or-drop at s j 0, e) in
+    let a = r 0 at (omega arith) (omega arith) in
+    let b = r 1 (at + 1) (omega arith) (omega arith) in
+    let c = r 2 (at + 2) (omega arith) (omega arith) in
+    let d = r 3 (at + 3) (omega arith) (omega arith) in
+    let e = r 4 (at + 4) (omega arith) (omega arith) in
+    let f = r 5 (at + 5) (omega arith) (omega arith) in
+    let g = r 6 (at + 6) (omega arith) (omega arith) in
+    let h = r 7 (at + 7) (omega arith) (omega arith) in
+    rw word_sum (omega arith)
 
--- ---- there and back
+chunk_at : (s : List ℕ) (n i : ℕ) (d : List ℕ) → i < n → get_or (first_chunks 8 n s) i d ≡ take 8 (drop (i * 8) s)
+chunk_at s zero i d h = absurd (omega arith)
+chunk_at s (suc n) zero d h = refl
+chunk_at s (suc n) (suc i) d h =
+    let e : 8 + i * 8 ≡ suc i * 8 = omega arith in chunk_at (drop 8 s) n i d (omega arith) ∙ ap (take 8) (drop-drop (i * 8) 8 s ∙ ap (λ k. drop k s) e)
 
-digits : (w : ℕ) → w < 2 ^ 64
-    → w % 256 + 256 * (w / 256 % 256 + 256 * (w / 256 ^ 2 % 256 + 256 * (w / 256 ^ 3 % 256 + 256 * (w / 256 ^ 4 % 256 + 256 * (w / 256 ^ 5 % 256
-    + 256 * (w / 256 ^ 6 % 256 + 256 * (w / 256 ^ 7 % 256))))))) ≡ w
-digits w h =
-    join _ _ _ _ _ _ _ _ _ _ _ _ _ _ _ _
-    (digit w (w / 256) refl)
-    (digit (w / 256) (w / 256 ^ 2) (omega arith))
-    (digit (w / 256 ^ 2) (w / 256 ^ 3) (omega arith))
-    (digit (w / 256 ^ 3) (w / 256 ^ 4) (omega arith))
-    (digit (w / 256 ^ 4) (w / 256 ^ 5) (omega arith))
-    (digit (w / 256 ^ 5) (w / 256 ^ 6) (omega arith))
-    (digit (w / 256 ^ 6) (w / 256 ^ 7) (omega arith))
-    (sym (mod-eq_of_lt (top w h)))
-  where
-    digit : (y z : ℕ) → y / 256 ≡ z → y ≡ y % 256 + 256 * z
-    digit y z e = omega arith
-
-    top : (y : ℕ) → y < 2 ^ 64 → y / 256 ^ 7 < 256
-    top y l = omega arith
-
-    join : (a b c d e f g h a' b' c' d' e' f' g' h' : ℕ) → a ≡ a' + 256 * b → b ≡ b' + 256 * c → c ≡ c' + 256 * d → d ≡ d' + 256 * e
-        → e ≡ e' + 256 * f → f ≡ f' + 256 * g → g ≡ g' + 256 * h → h ≡ h'
-        → a' + 256 * (b' + 256 * (c' + 256 * (d' + 256 * (e' + 256 * (f' + 256 * (g' + 256 * h')))))) ≡ a
-    join a b c d e f g h a' b' c' d' e' f' g' h' ea eb ec ed ee ef eg eh = omega arith
-
--- the word of eight bytes behind others
-word_back : (front back : List ℕ) (w : ℕ) → w < 2 ^ 64 → word_at (front ++ (eight w ++ back)) (length front) ≡ w
-unfolding word_at eight
-word_back front back w h =
-    let l = eight w ++ back in
-    rw (
-      ap (λ (k : ℕ). get_or (front ++ l) k 0) (sym (add-zero (length front))) ∙ get_or-append-add front l 0 0,
-      get_or-append-add front l 1 0,
-      get_or-append-add front l 2 0,
-      get_or-append-add front l 3 0,
-      get_or-append-add front l 4 0,
-      get_or-append-add front l 5 0,
-      get_or-append-add front l 6 0,
-      get_or-append-add front l 7 0,
-    )
-    (digits w h)
-
--- an image whose words are given as bytes and taken back is the same
-pub words_back : (l back : List ℕ) (n : ℕ) → n ≤ length l → ((i : ℕ) → get_or l i 0 < 2 ^ 64) → words_of (bytes_of l n ++ back) n ≡ take n l
-unfolding words_of bytes_of
-words_back l back zero h small = refl
-words_back l back (suc n) h small =
-    let rest = eight (get_or l n 0) ++ back in
-    let front = bytes_of l n in
-    let e : bytes_of l (suc n) ++ back ≡ front ++ rest = append_assoc front (eight (get_or l n 0)) back in
-    let w : word_at (front ++ rest) (n * 8) ≡ get_or l n 0 = rw (length_bytes l n) at (word_back front back (get_or l n 0) (small n)) in
-    ap (λ (s : List ℕ). words_of s (suc n)) e ∙ rw (words_back l rest n (omega arith) small, w) (sym (take-suc l n 0 (omega arith)))
+pub words_more :
+    (s out : List ℕ) (chunks : List (List ℕ)) (n i w : ℕ) (d : List ℕ) → take i out ≡ words_of s i → chunks ≡ first_chunks 8 n s → i < n → i < length out →
+    w ≡ from_le_bytes w64 (get_or chunks i d) → take (i + 1) (set out i w) ≡ words_of s (i + 1)
+unfolding words_of
+words_more s out chunks n i w d e c h l q =
+    let r : w ≡ word_at s (i * 8) = q ∙ rw (c, chunk_at s n i d h) (word_is s (i * 8)) in rw (add-one i, take-suc-set out i w l, e, r)

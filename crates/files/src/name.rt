@@ -1,53 +1,32 @@
 // The second name of a file: its path, the process's number and a number of its own.
-ghost use Rattle.std.specs.Prelude.{◌≤◌, ◌+◌, length};
-ghost use Rattle.files.specs.Name.{dotted, ending_of, second_name, PutAt, NameMade};
+ghost use Rattle.std.specs.Prelude.{◌≡◌, ◌+◌, ◌<◌, ◌≤◌, ◌++◌, length, MatchOption, IsSome};
+ghost use Rattle.files.specs.Name.{dotted, second_name};
 
-// Puts bytes into `out` from `at` on, and answers where they end.
-fn put(s: &[u8], out: &mut [u8], at: usize) -> usize
-    requires { at + length s.now ≤ length out.old }
-    ensures { PutAt s.now out.old out.new at result }
+use arrayvec::ArrayString;
+use itoa::Buffer;
+
+// A path has 4,095 bytes at most.
+pub type Name = ArrayString<4095>;
+
+// Puts a dot and a number in decimal behind a name, if they have room.
+#[tactic(auto, unfolding(crate::specs::Name::dotted))]
+fn push_dotted(name: &mut Name, number: u64) -> Option<()>
+    ensures { MatchOption result (4095 < length name.old.bytes + length (dotted number)) (λ _. name.new.bytes ≡ name.old.bytes ++ dotted number) }
 {
-    let mut i = 0;
-    while i < s.len() {
-        out[at + i] = s[i];
-        i += 1;
-    }
-    at + i
+    name.try_push_str(".").ok()?;
+    name.try_push_str(Buffer::new().format(number)).ok()
 }
 
-// Puts a dot and a number in decimal, 21 bytes at most.
-fn put_number(n: u64, out: &mut [u8], at: usize) -> usize
-    requires { at + 21 ≤ length out.old }
-    ensures { PutAt (dotted n) out.old out.new at result × (result ≤ at + 21) }
+// The second name of a path, if it has room.
+#[tactic(auto, unfolding(crate::specs::Name::second_name, crate::specs::Name::ending_of))]
+pub fn second_name(path: &str, process: u64, number: u64) -> Option<Name>
+    ensures cases { MatchOption result (4095 < length (second_name path.now process number)) (λ name. name.bytes ≡ second_name path.now process number) }
+    ensures fits { IsSome result → length (second_name path.now process number) ≤ 4095 }
 {
-    let mut digits = [0u8; 20];
-    let k = io::decimal(n, &mut digits);
-    let from = put(b".", &mut out[..], at);
-    put(&digits[..k], &mut out[..], from)
-}
-
-// What the second name has behind the path, 46 bytes at most.
-fn put_ending(process: u64, number: u64, out: &mut [u8]) -> usize
-    requires { 46 ≤ length out.old }
-    ensures { PutAt (ending_of process number) out.old out.new 0 result × (result ≤ 46) }
-{
-    let a = put_number(process, &mut out[..], 0);
-    let b = put_number(number, &mut out[..], a);
-    put(b".new", &mut out[..], b)
-}
-
-// The second name, at the start of `out`; 0 bytes where it has no room.
-pub fn second_name(path: &[u8], process: u64, number: u64, out: &mut [u8]) -> usize
-    ensures { NameMade (second_name path.now process number) (length out.old) out.new result }
-{
-    let mut ending = [0u8; 46];
-    let k = put_ending(process, number, &mut ending);
-    if out.len() < k {
-        return 0;
-    }
-    if out.len() - k < path.len() {
-        return 0;
-    }
-    let n = put(path, &mut out[..], 0);
-    put(&ending[..k], &mut out[..], n)
+    let mut name = Name::new();
+    name.try_push_str(path).ok()?;
+    push_dotted(&mut name, process)?;
+    push_dotted(&mut name, number)?;
+    name.try_push_str(".new").ok()?;
+    Some(name)
 }

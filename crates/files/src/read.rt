@@ -1,91 +1,55 @@
 // Words from an open file.
-ghost use Rattle.std.specs.Prelude.{◌≤◌, length};
-ghost use Rattle.files.specs.Answers.{count_of};
+ghost use Rattle.std.specs.Prelude.{◌≤◌, length, IfOk};
 
-use crate::{Loaded, words};
-use std::io::Read;
-
-// How many bytes were read, and whether a read failed.
-#[derive(Drop)]
-struct Bytes {
-    count: usize,
-    failed: bool,
-}
-
-// One read.
-fn read_some(file: &mut impl Read, room: &mut [u8]) -> Bytes
-    ensures { result.count ≤ length room.old }
-{
-    match file.read(room) {
-        Ok(count) => Bytes {
-            count,
-            failed: false,
-        },
-        Err(_) => Bytes {
-            count: 0,
-            failed: true,
-        },
-    }
-}
+use crate::{LoadError, words};
+use std::io::{self, Read};
 
 // Reads until the buffer is full, the file ends or a read fails.
-fn read_full(file: &mut impl Read, buffer: &mut [u8]) -> Bytes
-    ensures { result.count ≤ length buffer.old }
+fn read_full(file: &mut impl Read, buffer: &mut [u8]) -> io::Result<usize>
+    ensures { IfOk result (λ count. count ≤ length buffer.old) }
 {
     let mut done = 0;
     while done < buffer.len() {
-        let more = read_some(&mut *file, &mut buffer[done..]);
-        let n = more.count;
-        if n == 0 {
-            return Bytes {
-                count: done,
-                failed: more.failed,
-            };
+        let count = file.read(&mut buffer[done..])?;
+        if count == 0 {
+            break;
         }
-        done += n;
+        done += count;
     }
-    Bytes {
-        count: done,
-        failed: false,
-    }
+    Ok(done)
 }
 
-// The next words of a file, at the start of `rest`; none at its end.
-fn load_some(file: &mut impl Read, buffer: &mut [u8], rest: &mut [u64]) -> Loaded
+// The next words of a file, at the start of `rest`, and how many they are; none at its end.
+fn load_some(file: &mut impl Read, buffer: &mut [u8], rest: &mut [u64]) -> Result<usize, LoadError>
     requires { 65536 ≤ length buffer.old }
-    ensures { count_of result ≤ length rest.old }
+    ensures { IfOk result (λ count. count ≤ length rest.old) }
 {
-    let most = words::at_once(rest.len()) * 8;
-    let read = read_full(file, &mut buffer[..most]);
-    if read.failed {
-        return Loaded::CannotRead;
+    let most = rest.len().min(words::AT_ONCE) * 8;
+    let read = read_full(file, &mut buffer[..most])?;
+    if read % 8 != 0 {
+        return Err(LoadError::NotWhole);
     }
-    let n = read.count;
-    let count = n / 8;
-    if count * 8 != n {
-        return Loaded::NotWhole;
-    }
-    words::take_words(&buffer[..n], &mut rest[..count]);
-    Loaded::Words(count)
+    let count = read / 8;
+    words::take_words(&buffer[..read], &mut rest[..count]);
+    Ok(count)
 }
 
-// The words of an open file, at the start of `room`: until the room is full, the file ends or a read fails.
-pub fn load_all(file: &mut impl Read, buffer: &mut [u8], room: &mut [u64]) -> Loaded
+// The words of an open file, at the start of `room`, and how many they are: until the room is full or the file ends.
+pub fn load_all(
+    file: &mut impl Read,
+    buffer: &mut [u8],
+    room: &mut [u64],
+) -> Result<usize, LoadError>
     requires { 65536 ≤ length buffer.old }
-    ensures { count_of result ≤ length room.old }
+    ensures { IfOk result (λ count. count ≤ length room.old) }
 {
-    let mut count = 0;
-    while count < room.len() {
-        match load_some(&mut *file, &mut buffer[..], &mut room[count..]) {
-            Loaded::Words(n) => {
-                if n == 0 {
-                    return Loaded::Words(count);
-                }
-                count += n;
-            }
-            Loaded::NotWhole => return Loaded::NotWhole,
-            Loaded::CannotRead => return Loaded::CannotRead,
+    let mut done = 0;
+    while done < room.len() {
+        let count = load_some(&mut *file, &mut buffer[..], &mut room[done..])?;
+        if count == 0 {
+            break;
         }
+        done += count;
     }
-    Loaded::Words(count)
+    Ok(done)
 }

@@ -1,16 +1,19 @@
 // A file that is written under a second name, and then takes the place of the first.
-ghost use Rattle.std.specs.Prelude.{◌≡◌, false, ◌+◌, ◌<◌, length};
+ghost use Rattle.std.specs.Prelude.{◌≡◌, IfSome};
+ghost use Rattle.files.specs.Answers.{LongRefused};
 ghost use Rattle.files.specs.Name.{number_of, SecondMade};
 
-use crate::{name, path, write};
+use crate::name::{self, Name};
+use crate::{SaveError, write};
+use std::fs::{self, OpenOptions};
 use std::process::Process;
 use std::rt::Files;
 
-// A new file, or none, the length of the name that was tried last, and that name's number.
+// A new file, its name, and the number in that.
 #[derive(Drop)]
 struct Second<F> {
-    file: Option<F>,
-    count: usize,
+    file: F,
+    name: Name,
     number: u64,
 }
 
@@ -18,77 +21,57 @@ struct Second<F> {
 fn number_of(pid: i32) -> u64
     ensures { result ≡ number_of pid }
 {
-    if pid < 0 {
-        return 0;
-    }
-    pid as u64
+    u64::try_from(pid).unwrap_or(0)
 }
 
-// Makes a file under the first of its second names that is not taken.
-fn make<R: Files>(rt: &R, path: &[u8], process: u64, space: &mut [u8]) -> Second<R::File>
-    ensures { SecondMade path.now process (length space.old) space.new result }
+// Makes a file anew, for writing alone.
+fn create<R: Files>(rt: &R, path: &str) -> std::io::Result<R::File> {
+    OpenOptions::new()
+        .write(true)
+        .create_new(true)
+        .open(rt, path)
+}
+
+// Makes a file under the first of a hundred second names that is not taken.
+fn make<R: Files>(rt: &R, path: &str, process: u64) -> Option<Second<R::File>>
+    ensures { IfSome result (SecondMade path.now process) }
 {
-    let mut number = 0;
-    loop {
-        let count = name::second_name(path, process, number, &mut space[..]);
-        if count == 0 {
-            return Second {
-                file: None,
-                count,
-                number,
-            };
-        }
-        if let Ok(file) = path::create(rt, &space[..count]) {
-            return Second {
-                file: Some(file),
-                count,
-                number,
-            };
-        }
-        if number == 99 {
-            return Second {
-                file: None,
-                count,
-                number,
-            };
-        }
-        number += 1;
-    }
-}
-
-// Writes the words to the open file `second`, which then becomes the file `path`. Where a step fails, `second` is removed and `path` stays.
-fn save_as<R: Files>(rt: &R, file: R::File, second: &[u8], path: &[u8], pool: &[u64]) -> bool {
-    let mut file = file;
-    let mut buffer = io::large_buffer();
-    let done = write::save_all(&mut file, &mut buffer, pool);
-    drop(file);
-    if done {
-        if path::rename(rt, second, path).is_ok() {
-            return true;
+    for number in 0..100 {
+        let name = name::second_name(path, process, number)?;
+        if let Ok(file) = create(rt, &name) {
+            return Some(Second { file, name, number });
         }
     }
-    let _ = path::remove(rt, second);
-    false
+    None
 }
 
-// Saves by way of a second name, for which `space` is lent.
-pub fn save_by(
-    rt: &impl Files,
-    process: Process,
-    path: &[u8],
-    space: &mut [u8],
+// Writes the words to the second file, which then becomes the file `path`. Where a step fails, the second is removed and `path` stays.
+fn save_as<R: Files>(
+    rt: &R,
+    second: Second<R::File>,
+    path: &str,
     pool: &[u64],
-) -> bool
-    ensures { length space.old < length path.now + 8 → result ≡ false }
+) -> std::io::Result<()> {
+    let Second { mut file, name, .. } = second;
+    let mut buffer = io::large_buffer();
+    let written = write::save_all(&mut file, &mut buffer, pool);
+    drop(file);
+    let saved = written.and_then(|()| fs::rename(rt, name.as_str(), path));
+    if saved.is_err() {
+        let _ = fs::remove_file(rt, name.as_str());
+    }
+    saved
+}
+
+// Saves by way of a second name.
+#[tactic(auto, using(crate::proofs::NameLaws::name_long))]
+pub fn save_by(rt: &impl Files, process: Process, path: &str, pool: &[u64]) -> Result<(), SaveError>
+    ensures { LongRefused path.now result }
 {
     let number = number_of(std::process::id(process).cast_signed());
-    let Second {
-        file,
-        count,
-        number: _,
-    } = make(rt, path, number, &mut space[..]);
-    let Some(file) = file else {
-        return false;
+    let Some(second) = make(rt, path, number) else {
+        return Err(SaveError::CannotWrite);
     };
-    save_as(rt, file, &space[..count], path, pool)
+    save_as(rt, second, path, pool)?;
+    Ok(())
 }

@@ -8,7 +8,7 @@ use lib.ListN.{replicate}
 use Rattle.types.specs.Base.{refused}
 use Rattle.types.specs.Refusals.{payment_above_claimable}
 use Rattle.positions.specs.declared.Key.{Key}
-use Rattle.positions.specs.declared.OptionKey.TheVariants.{None}
+use Rattle.std.specs.Prelude.{None}
 use Rattle.image.specs.Layout.{self, other, claimable_rewards, num_events, event_epoch, head, slot, read, image}
 use Rattle.pool.specs.declared.changes.Delegation.{Delegation}
 use Rattle.integrity_pool.specs.declared.payment.Claim.{Claim}

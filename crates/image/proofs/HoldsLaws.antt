@@ -1,27 +1,16 @@
 -- A list that holds given words by name: what loops and stores keep. Assumes nothing.
-use Prim.Native.Nat.{ℕ, ◌+◌, ◌-◌, ◌<◌}
+use Prim.Native.Nat.{ℕ, ◌-◌}
 use mathlib.Core.Path.{◌≡◌, refl, ap, sym, ◌∙◌}
-use mathlib.Core.Logic.{◌≢◌}
-use mathlib.Core.Bool.{cond}
 use mathlib.Core.List.{List}
-use native.Mathlib.Omega.{arith}
-use native.Mathlib.Decide.{ℕ_discrete}
-use lib.Dec.{eqb}
-use lib.ListN.{get_or, length, set, length-set}
-use lib.Seq.{get_or-set_same, get_or-set_other}
-use borrow.Author.Tests.{eq-eqb, ne_eqb}
-use Rattle.image.specs.Layout.{last_updated_epoch, claimable_rewards, num_events, Field, head, seat, slot, share, Words, size, addr, InRange, field_of, read, image}
-use Rattle.image.specs.Seats.{Cleared, fresh_words}
-use Rattle.image.proofs.LayoutLaws.{field_of_addr, addr_lt, read_image, length_image}
+use lib.ListN.{length}
+use Rattle.image.specs.Layout.{last_updated_epoch, claimable_rewards, num_events, Field, head, seat, slot, share, Words, size, addr, InRange, read, image}
+use Rattle.image.specs.Seats.{Cleared, with_head, fresh_words}
+use Rattle.image.proofs.LayoutLaws.{addr_lt, read_image, length_image}
 use Rattle.image.proofs.ImageLaws.{image_ext}
 
 pub record Holds (P E : ℕ) (w : Words) (img : List ℕ) : Type 0 where
   pub long : length img ≡ size P E
   pub has : (f : Field) → InRange P E f → read P E img f ≡ w f
-
--- one word changed
-unfoldable pub put : ℕ → ℕ → Words → Field → ℕ → Words
-put P E w f v g = cond (eqb (addr P E g) (addr P E f)) v (w g)
 
 module _ (P E : ℕ) where
   pub holds_itself : (img : List ℕ) → length img ≡ size P E → Holds P E (read P E img) img
@@ -36,63 +25,28 @@ module _ (P E : ℕ) where
   pub holds_ext : (w v : Words) (img : List ℕ) → Holds P E w img → ((f : Field) → InRange P E f → w f ≡ v f) → Holds P E v img
   holds_ext w v img h e = record { long = h.long; has = λ f r. h.has f r ∙ e f r }
 
-  pub put_here : (w : Words) (f g : Field) (v : ℕ) → addr P E g ≡ addr P E f → put P E w f v g ≡ v
-  unfolding put
-  put_here w f g v e = rw (eq-eqb (addr P E g) (addr P E f) e)
-
-  pub put_else : (w : Words) (f g : Field) (v : ℕ) → addr P E g ≢ addr P E f → put P E w f v g ≡ w g
-  unfolding put
-  put_else w f g v n = rw (ne_eqb (addr P E g) (addr P E f) n)
-
-  -- a store to the place of a word
-  pub holds_set : (w : Words) (img : List ℕ) (f : Field) (v at : ℕ) → Holds P E w img → InRange P E f → at ≡ addr P E f → Holds P E (put P E w f v) (set img at v)
-  unfolding read
-  holds_set w img f v at h r q = record { long = length-set img at v ∙ h.long; has = λ g rg. go g rg (ℕ_discrete (addr P E g) (addr P E f)) }
-    where
-      go : (g : Field) → InRange P E g → Dec (addr P E g ≡ addr P E f) → read P E (set img at v) g ≡ put P E w f v g
-      go g rg (yes e) =
-          let lt = addr_lt P E f r in
-          let l = h.long in
-          rw (q, e) (get_or-set_same img (addr P E f) v 0 (omega arith)) ∙ sym (put_here w f g v e)
-      go g rg (no ne) = rw q (get_or-set_other img (addr P E f) (addr P E g) v 0 ne) ∙ h.has g rg ∙ sym (put_else w f g v ne)
-
-  -- words with different names do not share a place
-  pub put_at : (w : Words) (f : Field) (v : ℕ) → put P E w f v f ≡ v
-  put_at w f v = put_here w f f v refl
-
-  pub put_apart : (w : Words) (f g : Field) (v : ℕ) → InRange P E f → InRange P E g → g ≢ f → put P E w f v g ≡ w g
-  put_apart w f g v rf rg ne = put_else w f g v (λ e. ne (sym (field_of_addr P E g rg) ∙ ap (field_of P E) e ∙ field_of_addr P E f rf))
+  -- words that are the same are one image
+  pub same_image : (w v : Words) → ((f : Field) → InRange P E f → w f ≡ v f) → image P E w ≡ image P E v
+  same_image w v e = holds_is v (image P E w) (holds_ext w v (image P E w) (image_holds w (image P E w) refl) e)
 
   -- an image that holds these words already
   pub stays : (w : Words) (img : List ℕ) → length img ≡ size P E → ((f : Field) → InRange P E f → read P E img f ≡ w f) → img ≡ image P E w
   stays w img l e = holds_is w img (record { long = l; has = e })
 
--- ---- a fresh pool
+-- ---- a fresh pool: a cleared one, with its last epoch
 
-pub clear_none : (l : List ℕ) (i : ℕ) → i < 0 → get_or l i 0 ≡ 0
-clear_none l i h = absurd (omega arith)
-
-pub clear_turn : (l : List ℕ) (n : ℕ) → n < length l → ((i : ℕ) → i < n → get_or l i 0 ≡ 0) → (i : ℕ) → i < n + 1 → get_or (set l n 0) i 0 ≡ 0
-clear_turn l n lt h i li = go (ℕ_discrete i n)
+pub fresh_image_law : (P E : ℕ) (old l : List ℕ) (given : ℕ) → length old ≡ size P E → Cleared old l
+    → image P E (with_head (read P E l) last_updated_epoch (given - 1)) ≡ image P E (fresh_words given)
+unfolding with_head read
+fresh_image_law P E old l given long z = same_image P E (with_head (read P E l) last_updated_epoch (given - 1)) (fresh_words given) words
   where
-    go : Dec (i ≡ n) → get_or (set l n 0) i 0 ≡ 0
-    go (yes e) = rw e (get_or-set_same l n 0 0 lt)
-    go (no ne) = get_or-set_other l n i 0 0 ne ∙ h i (omega arith)
+    zero_at : (f : Field) → InRange P E f → read P E l f ≡ 0
+    zero_at f r = z.zeros (addr P E f) (rw long (addr_lt P E f r))
 
-pub fresh_image_law : (P E : ℕ) (old l : List ℕ) (given : ℕ) → length old ≡ size P E → Cleared old l → set l 0 (given - 1) ≡ image P E (fresh_words given)
-unfolding read
-fresh_image_law P E old l given long z =
-    let h0 : Holds P E (λ f. 0) l = record { long = z.long ∙ long; has = λ f r. let lt = addr_lt P E f r in z.zeros (addr P E f) (omega arith) } in
-    let h1 = holds_set P E (λ f. 0) l (head last_updated_epoch) (given - 1) 0 h0 tt refl in
-    holds_is P E (fresh_words given) _ (holds_ext P E (put P E (λ f. 0) (head last_updated_epoch) (given - 1)) (fresh_words given) _ h1 words)
-  where
-    far : (g : Field) → InRange P E g → g ≢ head last_updated_epoch → put P E (λ f. 0) (head last_updated_epoch) (given - 1) g ≡ 0
-    far g r ne = put_apart P E (λ f. 0) (head last_updated_epoch) g (given - 1) tt r ne
-
-    words : (g : Field) → InRange P E g → put P E (λ f. 0) (head last_updated_epoch) (given - 1) g ≡ fresh_words given g
-    words (head last_updated_epoch) r = put_at P E (λ f. 0) (head last_updated_epoch) (given - 1)
-    words (head claimable_rewards) r = far (head claimable_rewards) r (λ e. let x : ◌≡◌ {A = ℕ} 0 1 = cc in omega arith)
-    words (head num_events) r = far (head num_events) r (λ e. let x : ◌≡◌ {A = ℕ} 0 1 = cc in omega arith)
-    words (seat s x) r = far (seat s x) r (λ e. let x : ◌≡◌ {A = ℕ} 0 1 = cc in omega arith)
-    words (slot t x) r = far (slot t x) r (λ e. let x : ◌≡◌ {A = ℕ} 0 1 = cc in omega arith)
-    words (share t s x) r = far (share t s x) r (λ e. let x : ◌≡◌ {A = ℕ} 0 1 = cc in omega arith)
+    words : (f : Field) → InRange P E f → with_head (read P E l) last_updated_epoch (given - 1) f ≡ fresh_words given f
+    words (head last_updated_epoch) r = refl
+    words (head claimable_rewards) r = zero_at (head claimable_rewards) r
+    words (head num_events) r = zero_at (head num_events) r
+    words (seat s x) r = zero_at (seat s x) r
+    words (slot t x) r = zero_at (slot t x) r
+    words (share t s x) r = zero_at (share t s x) r

@@ -1,7 +1,7 @@
 -- Each field in range has a place of its own.
 -- Assumes nothing.
 use Prim.Native.Nat.{ℕ, zero, suc, ◌+◌, ◌*◌, ◌-◌, ◌/◌, ◌%◌, ◌≤◌, ◌<◌}
-use mathlib.Core.Path.{◌≡◌, refl, ap, ap₂, ◌∙◌}
+use mathlib.Core.Path.{◌≡◌, refl, sym, ap, ap₂, ◌∙◌}
 use native.Mathlib.Omega.{arith}
 use native.Mathlib.Nat.{mul-le-mul_right}
 use lib.ListN.{get_or, length}
@@ -118,6 +118,10 @@ module _ (P E : ℕ) where
   field_of_addr (seat s delegation_fees) r =
       past _ _ _ _ _ (omega arith) (past _ _ _ _ _ (omega arith) (past _ _ _ _ _ (omega arith) (past _ _ _ _ _ (omega arith)
       (past _ _ _ _ _ (omega arith) (past _ _ _ _ _ (omega arith) (past _ _ _ _ _ (omega arith) (past _ _ _ _ _ (omega arith) (past _ _ _ _ _ (omega arith) (ap (λ q. seat q delegation_fees) (omega arith))))))))))
+
+  -- words with different names do not share a place
+  pub addr_apart : (f g : Field) → InRange P E f → InRange P E g → addr P E f ≡ addr P E g → f ≡ g
+  addr_apart f g rf rg e = sym (field_of_addr f rf) ∙ ap (field_of P E) e ∙ field_of_addr g rg
 
   pub addr_lt : (f : Field) → InRange P E f → addr P E f < size P E
   addr_lt (head last_updated_epoch) r = omega arith

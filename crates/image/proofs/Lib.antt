@@ -1,11 +1,11 @@
 pub mod ListLaws
-pub mod StrideLaws
 pub mod AgeLaws
 pub mod LayoutLaws
 pub mod ImageLaws
 pub mod HoldsLaws
 pub mod PlaceLaws
 pub mod SeatLaws
+pub mod PoolLaws
 pub mod WriteLaws
 pub mod ChangeWrites
 pub mod PartLaws

@@ -1,11 +1,8 @@
 -- Where the events of an image stand: they lie within it, and the places stay small. Assumes nothing.
-use mathlib.Core.List.{List}
-use Prim.Native.Nat.{ℕ, ◌+◌, ◌*◌, ◌%◌, ◌≤◌, ◌<◌}
-use native.Mathlib.Nat.{mul-le-mul, mul-le-mul_right, mod-lt}
+use Prim.Native.Nat.{ℕ, ◌+◌, ◌*◌, ◌≤◌, ◌<◌}
+use native.Mathlib.Nat.{mul-le-mul, mul-le-mul_right}
 use native.Mathlib.Omega.{arith}
-use lib.ListN.{length}
 use Rattle.image.specs.Layout.{event_size, event_at, num_events_at}
-use Rattle.image.specs.Seats.{Sized}
 
 -- an event slot's words lie in front of the count
 pub slot_fits_law : (p e s : ℕ) → s < e → event_at p s + event_size p ≤ num_events_at p e
@@ -14,10 +11,3 @@ slot_fits_law p e s h = omega (arith, mul-le-mul_right (9 + 3 * p) h)
 -- the products stay small
 pub slot_small : (p s : ℕ) → p ≤ 1024 → s ≤ 52 → s * (9 + 3 * p) ≤ 160212
 slot_small p s hp hs = let h : 9 + 3 * p ≤ 3081 = omega arith in mul-le-mul hs h
-
--- the slot of an event number, in an image
-pub slot_of : (pool : List ℕ) (p e number : ℕ) → Sized pool p e → (number % e < e) × (event_at p (number % e) + event_size p ≤ length pool) × (event_at p (number % e) + event_size p ≤ 172502)
-slot_of pool p e number z =
-    let b = mod-lt number z.e_low in
-    let s = slot_fits_law p e (number % e) b in
-    (b, omega (arith, z.size), omega (arith, slot_small p e z.p_high z.e_high))

@@ -1,136 +1,185 @@
--- A key or a side written to its seat: the image then holds withPublisher's or withSide's words. Assumes nothing.
-use Prim.Native.Nat.{ℕ, zero, suc, ◌+◌, ◌*◌, ◌<◌}
-use mathlib.Core.Path.{◌≡◌, ◌∙◌}
-use mathlib.Core.Logic.{◌≢◌}
-use mathlib.Core.Bool.{◌&&◌}
+-- Stores to the places of some words: the image then holds what a definition says, where it says the stored values of these words and leaves
+-- all others. Assumes nothing.
+use Prim.Native.Nat.{ℕ, zero, suc, ◌+◌, ◌*◌, ◌≤◌, ◌<◌}
+use mathlib.Core.Path.{◌≡◌, refl, sym, ap, ◌∙◌}
+use mathlib.Core.Logic.{◌⊎◌, inl, inr, ⊎_elim, ◌≢◌}
+use mathlib.Core.Bool.{true, false, ◌&&◌}
 use mathlib.Core.List.{List}
 use native.Mathlib.Decide.{ℕ_discrete}
 use native.Mathlib.Omega.{arith}
-use lib.Dec.{eqb}
-use lib.ListN.{length, set}
+use lib.ListN.{length, get_or, set, length-set}
+use lib.Seq.{get_or-set_same, get_or-set_other}
 use borrow.Author.Tests.{eq-eqb, ne_eqb}
+use lib.Dec.{eqb}
 use Rattle.std.specs.Prelude.{if◌then◌else◌}
+use Rattle.types.proofs.Below.{and_right}
 use Rattle.positions.specs.declared.Key.{Key}
 use Rattle.delegation.specs.declared.DelegationState.{DelegationState}
-use Rattle.image.specs.Layout.{Whose, self, other, publishers, total_delegation, delta_delegation, publisher_stake_accounts, num_slash_events, delegation_fees, Field, head, seat, slot, share, Words, size, addr, InRange, read, image}
-use Rattle.image.specs.Seats.{word_of, with_publisher, same_side, with_side}
-use Rattle.image.proofs.HoldsLaws.{put, holds_itself, holds_is, holds_ext, holds_set, put_at, put_apart}
+use Rattle.image.specs.Layout.{Whose, self, other, Head, last_updated_epoch, claimable_rewards, num_events, publishers, total_delegation, delta_delegation, publisher_stake_accounts, num_slash_events, delegation_fees, Field, head, seat, slot, share, Words, size, addr, InRange, read, image}
+use Rattle.image.specs.Seats.{word_of, keyed, with_publisher, same_side, with_side, same_head, with_head}
+use Rattle.image.proofs.LayoutLaws.{addr_lt, addr_apart}
+use Rattle.image.proofs.HoldsLaws.{stays}
 
-module _ (P E : ℕ) (img : List ℕ) (s : ℕ) (long : length img ≡ size P E) (in_seat : s < P) where
+-- ---- a run of stores: F names the words, v gives their values, and the places follow each other from `at` on
+
+abbrev pub place : (at c : ℕ) → ℕ
+place at zero = at
+place at (suc c) = at + suc c
+
+module _ (P E : ℕ) (F : ℕ → Field) (v : ℕ → ℕ) (img : List ℕ) (at : ℕ) where
+  -- the first n of them are stored
+  unfoldable pub stored : ℕ → List ℕ
+  stored zero = img
+  stored (suc n) = set (stored n) (place at n) (v n)
+
+  module _ (N : ℕ) (in_run : (c : ℕ) → c < N → InRange P E (F c) × (place at c ≡ addr P E (F c))) (long : length img ≡ size P E)
+      (w : Words) (new : (c : ℕ) → c < N → w (F c) ≡ v c) where
+    length_stored : (n : ℕ) → length (stored n) ≡ size P E
+    unfolding stored
+    length_stored zero = long
+    length_stored (suc n) = length-set (stored n) (place at n) (v n) ∙ length_stored n
+
+    -- a word is one of those stored, or as it was
+    abbrev Word : (n : ℕ) → Field → Type 0
+    Word n g = (read P E (stored n) g ≡ w g) ⊎ ((read P E (stored n) g ≡ read P E img g) × ((c : ℕ) → c < n → g ≢ F c))
+
+    one_more : (n : ℕ) → n < N → (g : Field) → InRange P E g → Word n g → Word (suc n) g
+    unfolding stored read
+    one_more n l g r before = go (ℕ_discrete (addr P E g) (addr P E (F n)))
+      where
+        go : Dec (addr P E g ≡ addr P E (F n)) → Word (suc n) g
+        go (yes e) =
+            let b : addr P E (F n) < length (stored n) = rw (length_stored n) (addr_lt P E (F n) (in_run n l).0) in
+            let q : g ≡ F n = addr_apart P E g (F n) r (in_run n l).0 e in
+            inl (rw (e, (in_run n l).1) (get_or-set_same (stored n) (addr P E (F n)) (v n) 0 b) ∙ sym (new n l) ∙ ap w (sym q))
+        go (no d) =
+            let kept : get_or (set (stored n) (place at n) (v n)) (addr P E g) 0 ≡ get_or (stored n) (addr P E g) 0 =
+            rw (in_run n l).1 (get_or-set_other (stored n) (addr P E (F n)) (addr P E g) (v n) 0 d) in
+            ⊎_elim (λ x. inl (kept ∙ x)) (λ x. inr (kept ∙ x.0, λ c h. still c h x.1 (ℕ_discrete c n))) before
+          where
+            still : (c : ℕ) → c < suc n → ((i : ℕ) → i < n → g ≢ F i) → Dec (c ≡ n) → g ≢ F c
+            still c h others (yes e) q = d (ap (addr P E) (q ∙ ap F e))
+            still c h others (no m) q = others c (omega arith) q
+
+    word_stored : (n : ℕ) → n ≤ N → (g : Field) → InRange P E g → Word n g
+    unfolding stored
+    word_stored zero l g r = inr (refl, λ c h. absurd (omega arith))
+    word_stored (suc n) l g r = one_more n (omega arith) g r (word_stored n (omega arith) g r)
+
+    pub stored_is : ((g : Field) → InRange P E g → ((c : ℕ) → c < N → g ≢ F c) → w g ≡ read P E img g) → stored N ≡ image P E w
+    stored_is others =
+        stays P E w (stored N) (length_stored N) (λ g r. ⊎_elim (λ x. x) (λ x. x.0 ∙ sym (others g r x.1)) (word_stored N (omega arith) g r))
+
+-- ---- a seat's words
+
+module _ (P E s : ℕ) (img : List ℕ) (long : length img ≡ size P E) (in_seat : s < P) where
   abbrev w0 : Words
   w0 = read P E img
 
-  -- ---- a key
+  -- `at` is where the key's first word stands, the others behind it
+  module _ (k : Key) (at : ℕ) where
+    publishers_at : at ≡ 2 + s * 4 → (c : ℕ) → c < 4 → InRange P E (seat s (publishers c)) × (place at c ≡ addr P E (seat s (publishers c)))
+    publishers_at q zero l = ((in_seat, l), omega arith)
+    publishers_at q (suc c) l = ((in_seat, l), omega arith)
 
-  module _ (k : Key) where
-    abbrev w1 : Words
-    w1 = put P E w0 (seat s (publishers 0)) k.0
-
-    abbrev w2 : Words
-    w2 = put P E w1 (seat s (publishers 1)) k.1
-
-    abbrev w3 : Words
-    w3 = put P E w2 (seat s (publishers 2)) k.2
-
-    abbrev w4 : Words
-    w4 = put P E w3 (seat s (publishers 3)) k.3
-
-    far : (g : Field) → InRange P E g → ((c : ℕ) → g ≢ seat s (publishers c)) → w4 g ≡ w0 g
-    far g r n =
-        put_apart P E w3 (seat s (publishers 3)) g k.3 (in_seat, omega arith) r (n 3) ∙ put_apart P E w2 (seat s (publishers 2)) g k.2 (in_seat, omega arith) r (n 2)
-        ∙ put_apart P E w1 (seat s (publishers 1)) g k.1 (in_seat, omega arith) r (n 1) ∙ put_apart P E w0 (seat s (publishers 0)) g k.0 (in_seat, omega arith) r (n 0)
-
-    word_is : (c : ℕ) → c < 4 → w4 (seat s (publishers c)) ≡ word_of k c
-    word_is zero l =
-        put_apart P E w3 (seat s (publishers 3)) _ k.3 (in_seat, omega arith) (in_seat, l) (λ q. let z : ◌≡◌ {A = ℕ} 0 3 = cc in omega arith)
-        ∙ put_apart P E w2 (seat s (publishers 2)) _ k.2 (in_seat, omega arith) (in_seat, l) (λ q. let z : ◌≡◌ {A = ℕ} 0 2 = cc in omega arith)
-        ∙ put_apart P E w1 (seat s (publishers 1)) _ k.1 (in_seat, omega arith) (in_seat, l) (λ q. let z : ◌≡◌ {A = ℕ} 0 1 = cc in omega arith)
-        ∙ put_at P E w0 (seat s (publishers 0)) k.0
-    word_is (suc zero) l =
-        put_apart P E w3 (seat s (publishers 3)) _ k.3 (in_seat, omega arith) (in_seat, l) (λ q. let z : ◌≡◌ {A = ℕ} 1 3 = cc in omega arith)
-        ∙ put_apart P E w2 (seat s (publishers 2)) _ k.2 (in_seat, omega arith) (in_seat, l) (λ q. let z : ◌≡◌ {A = ℕ} 1 2 = cc in omega arith)
-        ∙ put_at P E w1 (seat s (publishers 1)) k.1
-    word_is (suc (suc zero)) l =
-        put_apart P E w3 (seat s (publishers 3)) _ k.3 (in_seat, omega arith) (in_seat, l) (λ q. let z : ◌≡◌ {A = ℕ} 2 3 = cc in omega arith)
-        ∙ put_at P E w2 (seat s (publishers 2)) k.2
-    word_is (suc (suc (suc zero))) l = put_at P E w3 (seat s (publishers 3)) k.3
-    word_is (suc (suc (suc (suc c)))) l = absurd (omega arith)
-
-    key_at : (q c : ℕ) → q < P → c < 4 → Dec (q ≡ s) → w4 (seat q (publishers c)) ≡ (if eqb q s then word_of k c else w0 (seat q (publishers c)))
-    key_at q c lq lc (yes e) = rw (eq-eqb q s e, e) (word_is c lc)
-    key_at q c lq lc (no ne) = rw (ne_eqb q s ne) (far (seat q (publishers c)) (lq, lc) (λ i e. ne (cc)))
-
-    key_words : (g : Field) → InRange P E g → w4 g ≡ with_publisher w0 s k g
+    else_publisher : (g : Field) → InRange P E g → ((c : ℕ) → c < 4 → g ≢ seat s (publishers c)) → with_publisher w0 s k g ≡ w0 g
     unfolding with_publisher
-    key_words (head h) r = far (head h) r (λ i e. let z : ◌≡◌ {A = ℕ} 0 1 = cc in omega arith)
-    key_words (seat q (publishers c)) r = key_at q c r.0 r.1 (ℕ_discrete q s)
-    key_words (seat q (total_delegation x)) r = far (seat q (total_delegation x)) r (λ i e. let z : ◌≡◌ {A = ℕ} 0 1 = cc in omega arith)
-    key_words (seat q (delta_delegation x)) r = far (seat q (delta_delegation x)) r (λ i e. let z : ◌≡◌ {A = ℕ} 0 1 = cc in omega arith)
-    key_words (seat q (publisher_stake_accounts x)) r = far (seat q (publisher_stake_accounts x)) r (λ i e. let z : ◌≡◌ {A = ℕ} 0 1 = cc in omega arith)
-    key_words (seat q num_slash_events) r = far (seat q num_slash_events) r (λ i e. let z : ◌≡◌ {A = ℕ} 0 1 = cc in omega arith)
-    key_words (seat q delegation_fees) r = far (seat q delegation_fees) r (λ i e. let z : ◌≡◌ {A = ℕ} 0 1 = cc in omega arith)
-    key_words (slot t x) r = far (slot t x) r (λ i e. let z : ◌≡◌ {A = ℕ} 0 1 = cc in omega arith)
-    key_words (share t q x) r = far (share t q x) r (λ i e. let z : ◌≡◌ {A = ℕ} 0 1 = cc in omega arith)
+    else_publisher (head h) r n = refl
+    else_publisher (seat q (publishers c)) r n = rw (ne_eqb q s (λ e. n c r.1 (ap (λ (i : ℕ). seat i (publishers c)) e)))
+    else_publisher (seat q (total_delegation d)) r n = refl
+    else_publisher (seat q (delta_delegation d)) r n = refl
+    else_publisher (seat q (publisher_stake_accounts c)) r n = refl
+    else_publisher (seat q num_slash_events) r n = refl
+    else_publisher (seat q delegation_fees) r n = refl
+    else_publisher (slot t x) r n = refl
+    else_publisher (share t q x) r n = refl
 
-    pub key_written : set (set (set (set img (2 + s * 4) k.0) (2 + s * 4 + 1) k.1) (2 + s * 4 + 2) k.2) (2 + s * 4 + 3) k.3 ≡ image P E (with_publisher w0 s k)
-    key_written =
-        let h0 = holds_itself P E img long in
-        let h1 = holds_set P E w0 img (seat s (publishers 0)) k.0 (2 + s * 4) h0 (in_seat, omega arith) (omega arith) in
-        let h2 = holds_set P E w1 _ (seat s (publishers 1)) k.1 (2 + s * 4 + 1) h1 (in_seat, omega arith) (omega arith) in
-        let h3 = holds_set P E w2 _ (seat s (publishers 2)) k.2 (2 + s * 4 + 2) h2 (in_seat, omega arith) (omega arith) in
-        let h4 = holds_set P E w3 _ (seat s (publishers 3)) k.3 (2 + s * 4 + 3) h3 (in_seat, omega arith) (omega arith) in
-        holds_is P E (with_publisher w0 s k) _ (holds_ext P E w4 (with_publisher w0 s k) _ h4 key_words)
+    pub key_written : at ≡ 2 + s * 4 → keyed img at k ≡ image P E (with_publisher w0 s k)
+    unfolding with_publisher stored
+    key_written q =
+        stored_is P E (λ c. seat s (publishers c)) (word_of k) img at 4 (publishers_at q) long (with_publisher w0 s k) (λ c l. rw (eq-eqb s s refl)) else_publisher
 
-  -- ---- a side
+  -- `at` is where the side's total stands, its change behind it
+  module _ (d : Whose) (v : DelegationState) (at : ℕ) where
+    abbrev side_word : ℕ → Field
+    side_word zero = seat s (total_delegation d)
+    side_word (suc c) = seat s (delta_delegation d)
 
-  module _ (d : Whose) (v : DelegationState) where
-    abbrev v1 : Words
-    v1 = put P E w0 (seat s (total_delegation d)) v.total_delegation.0
+    abbrev value : ℕ → ℕ
+    value zero = v.total_delegation.0
+    value (suc c) = v.delta_delegation
 
-    abbrev v2 : Words
-    v2 = put P E v1 (seat s (delta_delegation d)) v.delta_delegation
+    change_at : (d : Whose) → at ≡ addr P E (seat s (total_delegation d)) → at + 1 ≡ addr P E (seat s (delta_delegation d))
+    change_at self q = omega arith
+    change_at other q = omega arith
 
-    apart : (g : Field) → InRange P E g → g ≢ seat s (total_delegation d) → g ≢ seat s (delta_delegation d) → v2 g ≡ w0 g
-    apart g r n m = put_apart P E v1 (seat s (delta_delegation d)) g v.delta_delegation (in_seat, tt) r m ∙ put_apart P E w0 (seat s (total_delegation d)) g v.total_delegation.0 (in_seat, tt) r n
+    side_at : at ≡ addr P E (seat s (total_delegation d)) → (c : ℕ) → c < 2 → InRange P E (side_word c) × (place at c ≡ addr P E (side_word c))
+    side_at q zero l = ((in_seat, tt), q)
+    side_at q (suc zero) l = ((in_seat, tt), change_at d q)
+    side_at q (suc (suc c)) l = absurd (omega arith)
 
-    total_is : v2 (seat s (total_delegation d)) ≡ v.total_delegation.0
-    total_is =
-        put_apart P E v1 (seat s (delta_delegation d)) _ v.delta_delegation (in_seat, tt) (in_seat, tt) (λ q. let z : ◌≡◌ {A = ℕ} 0 1 = cc in omega arith)
-        ∙ put_at P E w0 (seat s (total_delegation d)) v.total_delegation.0
+    same : (x : Whose) → same_side x x ≡ true
+    same self = refl
+    same other = refl
 
-  -- the side that is written, and the one that is not
-  module _ (v : DelegationState) where
-    total_at : (d x : Whose) (q : ℕ) → q < P → Dec (q ≡ s) → v2 d v (seat q (total_delegation x)) ≡ (if eqb q s && same_side x d then v.total_delegation.0 else w0 (seat q (total_delegation x)))
-    total_at self self q l (yes e) = rw (eq-eqb q s e, e) (total_is self v)
-    total_at other other q l (yes e) = rw (eq-eqb q s e, e) (total_is other v)
-    total_at self other q l (yes e) = rw (eq-eqb q s e) (apart self v (seat q (total_delegation other)) (l, tt) (λ k. let z : ◌≡◌ {A = ℕ} 0 1 = cc in omega arith) (λ k. let z : ◌≡◌ {A = ℕ} 0 1 = cc in omega arith))
-    total_at other self q l (yes e) = rw (eq-eqb q s e) (apart other v (seat q (total_delegation self)) (l, tt) (λ k. let z : ◌≡◌ {A = ℕ} 0 1 = cc in omega arith) (λ k. let z : ◌≡◌ {A = ℕ} 0 1 = cc in omega arith))
-    total_at d x q l (no n) = rw (ne_eqb q s n) (apart d v (seat q (total_delegation x)) (l, tt) (λ k. n (cc)) (λ k. let z : ◌≡◌ {A = ℕ} 0 1 = cc in omega arith))
-
-    change_at : (d x : Whose) (q : ℕ) → q < P → Dec (q ≡ s) → v2 d v (seat q (delta_delegation x)) ≡ (if eqb q s && same_side x d then v.delta_delegation else w0 (seat q (delta_delegation x)))
-    change_at self self q l (yes e) = rw (eq-eqb q s e, e) (put_at P E (v1 self v) (seat s (delta_delegation self)) v.delta_delegation)
-    change_at other other q l (yes e) = rw (eq-eqb q s e, e) (put_at P E (v1 other v) (seat s (delta_delegation other)) v.delta_delegation)
-    change_at self other q l (yes e) = rw (eq-eqb q s e) (apart self v (seat q (delta_delegation other)) (l, tt) (λ k. let z : ◌≡◌ {A = ℕ} 0 1 = cc in omega arith) (λ k. let z : ◌≡◌ {A = ℕ} 0 1 = cc in omega arith))
-    change_at other self q l (yes e) = rw (eq-eqb q s e) (apart other v (seat q (delta_delegation self)) (l, tt) (λ k. let z : ◌≡◌ {A = ℕ} 0 1 = cc in omega arith) (λ k. let z : ◌≡◌ {A = ℕ} 0 1 = cc in omega arith))
-    change_at d x q l (no n) = rw (ne_eqb q s n) (apart d v (seat q (delta_delegation x)) (l, tt) (λ k. let z : ◌≡◌ {A = ℕ} 0 1 = cc in omega arith) (λ k. n (cc)))
-
-    side_words : (d : Whose) (g : Field) → InRange P E g → v2 d v g ≡ with_side w0 s d v g
+    is_written : (c : ℕ) → c < 2 → with_side w0 s d v (side_word c) ≡ value c
     unfolding with_side
-    side_words d (head h) r = apart d v (head h) r (λ e. let z : ◌≡◌ {A = ℕ} 0 1 = cc in omega arith) (λ e. let z : ◌≡◌ {A = ℕ} 0 1 = cc in omega arith)
-    side_words d (seat q (publishers c)) r = apart d v (seat q (publishers c)) r (λ e. let z : ◌≡◌ {A = ℕ} 0 1 = cc in omega arith) (λ e. let z : ◌≡◌ {A = ℕ} 0 1 = cc in omega arith)
-    side_words d (seat q (total_delegation x)) r = total_at d x q r.0 (ℕ_discrete q s)
-    side_words d (seat q (delta_delegation x)) r = change_at d x q r.0 (ℕ_discrete q s)
-    side_words d (seat q (publisher_stake_accounts c)) r = apart d v (seat q (publisher_stake_accounts c)) r (λ e. let z : ◌≡◌ {A = ℕ} 0 1 = cc in omega arith) (λ e. let z : ◌≡◌ {A = ℕ} 0 1 = cc in omega arith)
-    side_words d (seat q num_slash_events) r = apart d v (seat q num_slash_events) r (λ e. let z : ◌≡◌ {A = ℕ} 0 1 = cc in omega arith) (λ e. let z : ◌≡◌ {A = ℕ} 0 1 = cc in omega arith)
-    side_words d (seat q delegation_fees) r = apart d v (seat q delegation_fees) r (λ e. let z : ◌≡◌ {A = ℕ} 0 1 = cc in omega arith) (λ e. let z : ◌≡◌ {A = ℕ} 0 1 = cc in omega arith)
-    side_words d (slot t x) r = apart d v (slot t x) r (λ e. let z : ◌≡◌ {A = ℕ} 0 1 = cc in omega arith) (λ e. let z : ◌≡◌ {A = ℕ} 0 1 = cc in omega arith)
-    side_words d (share t q x) r = apart d v (share t q x) r (λ e. let z : ◌≡◌ {A = ℕ} 0 1 = cc in omega arith) (λ e. let z : ◌≡◌ {A = ℕ} 0 1 = cc in omega arith)
+    is_written zero l = rw (eq-eqb s s refl, same d)
+    is_written (suc c) l = rw (eq-eqb s s refl, same d)
 
-    -- `at` is where the side's total stands, its change behind it
-    pub side_written : (d : Whose) (at : ℕ) → at ≡ addr P E (seat s (total_delegation d)) → at + 1 ≡ addr P E (seat s (delta_delegation d))
-        → set (set img at v.total_delegation.0) (at + 1) v.delta_delegation ≡ image P E (with_side w0 s d v)
-    side_written d at q q' =
-        let h0 = holds_itself P E img long in
-        let h1 = holds_set P E w0 img (seat s (total_delegation d)) v.total_delegation.0 at h0 (in_seat, tt) q in
-        let h2 = holds_set P E (v1 d v) _ (seat s (delta_delegation d)) v.delta_delegation (at + 1) h1 (in_seat, tt) q' in
-        holds_is P E (with_side w0 s d v) _ (holds_ext P E (v2 d v) (with_side w0 s d v) _ h2 (side_words d))
+    -- the same seat and side, or not
+    neither : {A : Type 0} (x y : A) (q : ℕ) (a d : Whose) → ((q ≡ s) → (a ≡ d) → ⊥) → (if eqb q s && same_side a d then x else y) ≡ y
+    neither x y q self self n = rw (ne_eqb q s (λ e. n e refl))
+    neither x y q other other n = rw (ne_eqb q s (λ e. n e refl))
+    neither x y q self other n = rw (and_right (eqb q s) false refl)
+    neither x y q other self n = rw (and_right (eqb q s) false refl)
+
+    else_side : (g : Field) → InRange P E g → ((c : ℕ) → c < 2 → g ≢ side_word c) → with_side w0 s d v g ≡ w0 g
+    unfolding with_side
+    else_side (head h) r n = refl
+    else_side (seat q (publishers c)) r n = refl
+    else_side (seat q (total_delegation x)) r n = neither _ _ q x d (λ e a. n 0 (omega arith) cc)
+    else_side (seat q (delta_delegation x)) r n = neither _ _ q x d (λ e a. n 1 (omega arith) cc)
+    else_side (seat q (publisher_stake_accounts c)) r n = refl
+    else_side (seat q num_slash_events) r n = refl
+    else_side (seat q delegation_fees) r n = refl
+    else_side (slot t x) r n = refl
+    else_side (share t q x) r n = refl
+
+    pub side_written : at ≡ addr P E (seat s (total_delegation d)) → set (set img at v.total_delegation.0) (at + 1) v.delta_delegation ≡ image P E (with_side w0 s d v)
+    unfolding stored
+    side_written q = stored_is P E side_word value img at 2 (side_at q) long (with_side w0 s d v) is_written else_side
+
+-- ---- a word of the pool as a whole
+
+module _ (P E : ℕ) (img : List ℕ) (long : length img ≡ size P E) (x : Head) (v at : ℕ) where
+  is_head : (x : Head) → same_head x x ≡ true
+  is_head last_updated_epoch = refl
+  is_head claimable_rewards = refl
+  is_head num_events = refl
+
+  another : {A : Type 0} (a b : A) (y x : Head) → y ≢ x → (if same_head y x then a else b) ≡ b
+  another a b last_updated_epoch last_updated_epoch n = absurd (n refl)
+  another a b last_updated_epoch claimable_rewards n = refl
+  another a b last_updated_epoch num_events n = refl
+  another a b claimable_rewards last_updated_epoch n = refl
+  another a b claimable_rewards claimable_rewards n = absurd (n refl)
+  another a b claimable_rewards num_events n = refl
+  another a b num_events last_updated_epoch n = refl
+  another a b num_events claimable_rewards n = refl
+  another a b num_events num_events n = absurd (n refl)
+
+  else_head : (g : Field) → InRange P E g → ((c : ℕ) → c < 1 → g ≢ head x) → with_head (read P E img) x v g ≡ read P E img g
+  unfolding with_head
+  else_head (head y) r n = another v _ y x (λ e. n 0 (omega arith) (ap head e))
+  else_head (seat s y) r n = refl
+  else_head (slot t y) r n = refl
+  else_head (share t s y) r n = refl
+
+  head_at : at ≡ addr P E (head x) → (c : ℕ) → c < 1 → InRange P E (head x) × (place at c ≡ addr P E (head x))
+  head_at q zero l = (tt, q)
+  head_at q (suc c) l = absurd (omega arith)
+
+  pub head_written : at ≡ addr P E (head x) → set img at v ≡ image P E (with_head (read P E img) x v)
+  unfolding stored with_head
+  head_written q = stored_is P E (λ c. head x) (λ c. v) img at 1 (head_at q) long (with_head (read P E img) x v) (λ c l. rw (is_head x)) else_head

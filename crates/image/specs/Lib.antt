@@ -1,4 +1,4 @@
 pub mod Layout
 pub mod Seats
-pub mod Lists
 pub mod Changes
+pub mod Pool

@@ -1,13 +1,11 @@
 -- Refusal 1, the seats of an image and what stands in them, and a fresh pool. Assumes nothing.
-use Rattle.std.specs.Prelude.{◌≡◌, Bool, ◌&&◌, List, ℕ, zero, suc, ◌-◌, ◌≤◌, ◌<◌, leb, ltb, eqb, length, get_or, if◌then◌else◌}
+use Rattle.std.specs.Prelude.{◌≡◌, Bool, ◌&&◌, List, [], ◌∷◌, ℕ, zero, suc, ◌+◌, ◌-◌, ◌≤◌, ◌<◌, leb, ltb, eqb, length, get_or, set, if◌then◌else◌}
 use Rattle.types.specs.Base.{half, Outcome, refused, accepted, first_below}
 use Rattle.types.specs.Refusals.{invalid_publisher, publisher_not_found}
 use Rattle.positions.specs.declared.Key.{Key}
 use Rattle.positions.specs.Key.{same_key}
 use Rattle.delegation.specs.declared.DelegationState.{DelegationState}
-use Rattle.image.specs.declared.seats.PublisherIndex.{PublisherIndex}
-use Rattle.image.specs.declared.seats.PublisherIndex.TheVariants.{Index, InvalidPublisher, PublisherNotFound}
-use Rattle.image.specs.Layout.{Whose, self, other, last_updated_epoch, claimable_rewards, num_events, publishers, total_delegation, delta_delegation, publisher_stake_accounts, num_slash_events, delegation_fees, head, seat, slot, share, Words, size, read}
+use Rattle.image.specs.Layout.{Whose, self, other, Head, last_updated_epoch, claimable_rewards, num_events, publishers, total_delegation, delta_delegation, publisher_stake_accounts, num_slash_events, delegation_fees, reward_ratio, event_fee, head, seat, slot, share, Words, size, read}
 
 -- ---- refusal 1
 
@@ -56,6 +54,10 @@ stake_account_at w s = record {
 abbrev pub side_at : Words → (s : ℕ) → Whose → DelegationState
 side_at w s d = record { total_delegation = record { 0 = w (seat s (total_delegation d)) }; delta_delegation = w (seat s (delta_delegation d)) }
 
+-- a seat's words in slot t's event: self ratio, other ratio and fee
+abbrev pub shares_at : Words → (t s : ℕ) → List ℕ
+shares_at w t s = w (share t s (reward_ratio self)) ∷ w (share t s (reward_ratio other)) ∷ w (share t s event_fee) ∷ []
+
 -- seats count up to the first zero key (item 4)
 unfoldable pub empty_seat : Words → ℕ → Bool
 empty_seat w s = same_key (publisher_at w s) zero_key
@@ -73,11 +75,6 @@ publisher_index_of P w publisher =
     else if ltb (first_seat P w publisher) P then accepted (first_seat P w publisher)
     else refused publisher_not_found
 
-abbrev pub publisher_index_is : PublisherIndex → Outcome ℕ
-publisher_index_is (Index s) = accepted s
-publisher_index_is InvalidPublisher = refused invalid_publisher
-publisher_index_is PublisherNotFound = refused publisher_not_found
-
 -- ---- a seat with a word of it changed
 
 -- word c of a key
@@ -86,6 +83,10 @@ word_of k zero = k.0
 word_of k (suc zero) = k.1
 word_of k (suc (suc zero)) = k.2
 word_of k (suc (suc (suc c))) = k.3
+
+-- words with a key from place `at` on
+abbrev pub keyed : List ℕ → (at : ℕ) → Key → List ℕ
+keyed words at k = set (set (set (set words at k.0) (at + 1) k.1) (at + 2) k.2) (at + 3) k.3
 
 -- seat s with this publisher key, all else as it was
 unfoldable pub with_publisher : Words → (s : ℕ) → Key → Words
@@ -118,6 +119,27 @@ with_side w s d v (seat q delegation_fees) = w (seat q delegation_fees)
 with_side w s d v (slot t x) = w (slot t x)
 with_side w s d v (share t q x) = w (share t q x)
 
+-- ---- a word of the pool as a whole changed
+
+-- the three are told apart
+abbrev pub same_head : Head → Head → Bool
+same_head last_updated_epoch last_updated_epoch = Bool.true
+same_head claimable_rewards claimable_rewards = Bool.true
+same_head num_events num_events = Bool.true
+same_head last_updated_epoch claimable_rewards = Bool.false
+same_head last_updated_epoch num_events = Bool.false
+same_head claimable_rewards last_updated_epoch = Bool.false
+same_head claimable_rewards num_events = Bool.false
+same_head num_events last_updated_epoch = Bool.false
+same_head num_events claimable_rewards = Bool.false
+
+-- the pool with this number as one of its three words, all else as it was
+unfoldable pub with_head : Words → Head → (value : ℕ) → Words
+with_head w h v (head x) = if same_head x h then v else w (head x)
+with_head w h v (seat s x) = w (seat s x)
+with_head w h v (slot t x) = w (slot t x)
+with_head w h v (share t s x) = w (share t s x)
+
 -- ---- a fresh pool
 
 -- 'A fresh pool is zero but for last epoch, one below the given one' (item 9)
@@ -133,3 +155,11 @@ fresh_words given (share t s x) = 0
 pub record Cleared (old new : List ℕ) : Type 0 where
   pub long : length new ≡ length old
   pub zeros : (i : ℕ) → i < length old → get_or new i 0 ≡ 0
+
+-- ---- all fees
+
+-- every word from place `at` on is this one, and those in front of it are as they were
+pub record FilledFrom (at word : ℕ) (old new : List ℕ) : Type 0 where
+  pub long : length new ≡ length old
+  pub kept : (i : ℕ) → i < at → get_or new i 0 ≡ get_or old i 0
+  pub filled : (i : ℕ) → at ≤ i → i < length old → get_or new i 0 ≡ word

@@ -5,14 +5,17 @@ ghost use Rattle.std.specs.Prelude.{◌≡◌, ◌≤◌};
 ghost use Rattle.image.specs.Layout.{event_at, num_events_at};
 ghost use Rattle.image.specs.Seats.{size_of, sized_image, checked_image, Cleared};
 
+use types::SIGNED_LIMIT;
+
 pub mod changes;
+pub mod events;
+pub mod head;
+pub mod pool_data;
 pub mod seats;
 
 pub const MAX_PUBLISHERS: usize = 1024;
 
 pub const MAX_EVENTS: usize = 52;
-
-const HALF: u64 = 0x8000_0000_0000_0000;
 
 // Where slot t's event begins.
 pub fn event_at(p: usize, t: usize) -> usize
@@ -31,56 +34,37 @@ pub fn num_events_at(p: usize, e: usize) -> usize
 }
 
 // The words of a pool of p seats and e events, 0 where there is no such pool.
+#[tactic(auto, using(crate::proofs::PlaceLaws::slot_small), unfolding(crate::specs::Seats::size_of))]
 pub fn size(p: usize, e: usize) -> usize
-    ensures { (result ≡ size_of p e) × (result ≤ 174551) }
+    ensures is { result ≡ size_of p e }
+    ensures small { result ≤ 174551 }
 {
-    if p < 1 {
+    if p < 1 || MAX_PUBLISHERS < p || e < 1 || MAX_EVENTS < e {
         return 0;
     }
-    if MAX_PUBLISHERS < p {
-        return 0;
-    }
-    if e < 1 {
-        return 0;
-    }
-    if MAX_EVENTS < e {
-        return 0;
-    }
-    let at = num_events_at(p, e);
-    at + 1 + 2 * p
+    num_events_at(p, e) + 1 + 2 * p
 }
 
 // P and E are in range, and the image has the words of such a pool.
+#[tactic(auto, unfolding(crate::specs::Seats::size_of, crate::specs::Seats::sized_image))]
 pub fn sized(pool: &[u64], p: usize, e: usize) -> bool
     ensures { result ≡ sized_image p e pool.now }
 {
     let words = size(p, e);
-    if words == 0 {
-        return false;
-    }
-    pool.len() == words
+    words != 0 && pool.len() == words
 }
 
 // Refusal 1 is given where this is false: besides, the event count is below 2^63.
+#[tactic(auto, using(crate::proofs::SeatLaws::sized_says, crate::proofs::PlaceLaws::slot_small), unfolding(crate::specs::Seats::checked_image, crate::specs::Layout::read))]
 pub fn checked(pool: &[u64], p: usize, e: usize) -> bool
     ensures { result ≡ checked_image p e pool.now }
 {
-    let right = sized(pool, p, e);
-    if !right {
-        return false;
-    }
-    let at = num_events_at(p, e);
-    let n = pool[at];
-    n < HALF
+    sized(pool, p, e) && pool[num_events_at(p, e)] < SIGNED_LIMIT
 }
 
 // Sets every word to zero.
 pub fn clear(pool: &mut [u64])
     ensures { Cleared pool.old pool.new }
 {
-    let mut i = 0;
-    while i < pool.len() {
-        pool[i] = 0;
-        i += 1;
-    }
+    pool.fill(0);
 }

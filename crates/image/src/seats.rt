@@ -1,137 +1,138 @@
-// The seats of an image: keys, sides and fees by name, and a publisher's seat.
-ghost use Rattle.std.specs.Prelude.{◌≡◌, ◌<◌};
-ghost use Rattle.image.specs.Layout.{self, other, delegation_fees, seat, read, image};
-ghost use Rattle.image.specs.Seats.{Sized, publisher_at, stake_account_at, side_at, seats_of, publisher_index_of, publisher_index_is, with_publisher, with_side};
+// The seats: keys, sides and fees by name, and a publisher's seat.
+#![tactic(auto, unfolding(crate::specs::Layout::read))]
+
+ghost use Rattle.std.specs.Prelude.{◌≡◌, ◌+◌, ◌≤◌, ◌<◌, length, IfSome};
+ghost use Rattle.std.specs.Option.{unwrap_or};
+ghost use Rattle.types.specs.Base.{outcome_of};
+ghost use Rattle.positions.specs.Positions.{key_from};
+ghost use Rattle.image.specs.Layout.{total_delegation, delegation_fees, seat, addr};
+ghost use Rattle.image.specs.Seats.{publisher_at, stake_account_at, side_at, seats_of, first_seat, publisher_index_of, keyed, with_publisher, with_side};
+ghost use Rattle.image.specs.Changes.{whose};
+ghost use Rattle.image.specs.Pool.{words_of, words_in, Becomes};
 
 use crate::num_events_at;
+use crate::pool_data::{PoolData, PoolDataMut};
 use delegation::DelegationState;
-use positions::{Key, same_key};
+use positions::Key;
 use types::Amount;
+use types::refusals::Refusal;
 
-#[derive(Drop)]
-pub enum PublisherIndex {
-    Index(usize),
-    InvalidPublisher,
-    PublisherNotFound,
+// Where a side of seat s stands: its total, and its change behind it.
+fn side_place(p: usize, s: usize, is_self: bool) -> usize
+    requires { (p ≤ 1024) × (s < p) }
+    ensures { result ≡ addr p 1 (seat s (total_delegation (whose is_self))) }
+{
+    let sides = if is_self { 2 + 6 * p } else { 2 + 4 * p };
+    sides + s * 2
 }
 
-// The publisher's key at seat s.
-pub fn publisher(pool: &[u64], p: usize, e: usize, s: usize) -> Key
-    requires { Sized pool.now p e × (s < p) }
-    ensures { result ≡ publisher_at (read p e pool.now) s }
+// A key's four words from place `at` on.
+pub(crate) fn write_key(words: &mut [u64], at: usize, key: Key)
+    requires { at + 4 ≤ length words.old }
+    ensures { words.new ≡ keyed words.old at key }
 {
-    let at = 2 + s * 4;
-    Key(pool[at], pool[at + 1], pool[at + 2], pool[at + 3])
+    words[at] = key.0;
+    words[at + 1] = key.1;
+    words[at + 2] = key.2;
+    words[at + 3] = key.3;
 }
 
-// The publisher's stake account at seat s.
-pub fn publisher_stake_account(pool: &[u64], p: usize, e: usize, s: usize) -> Key
-    requires { Sized pool.now p e × (s < p) }
-    ensures { result ≡ stake_account_at (read p e pool.now) s }
-{
-    let at = 2 + 8 * p + s * 4;
-    Key(pool[at], pool[at + 1], pool[at + 2], pool[at + 3])
-}
-
-// The other side of seat s.
-pub fn del_state(pool: &[u64], p: usize, e: usize, s: usize) -> DelegationState
-    requires { Sized pool.now p e × (s < p) }
-    ensures { result ≡ side_at (read p e pool.now) s other }
-{
-    let at = 2 + 4 * p + s * 2;
-    DelegationState {
-        total_delegation: Amount(pool[at]),
-        delta_delegation: pool[at + 1],
+impl PoolData<'_> {
+    // The key whose four words stand from place `at` on.
+    fn key_at(self, at: usize) -> Key
+        requires { at + 4 ≤ length self.words.now }
+        ensures { result ≡ key_from self.entry.words.now at }
+    {
+        Key(
+            self.words[at],
+            self.words[at + 1],
+            self.words[at + 2],
+            self.words[at + 3],
+        )
     }
-}
 
-// The self side of seat s.
-pub fn self_del_state(pool: &[u64], p: usize, e: usize, s: usize) -> DelegationState
-    requires { Sized pool.now p e × (s < p) }
-    ensures { result ≡ side_at (read p e pool.now) s self }
-{
-    let at = 2 + 6 * p + s * 2;
-    DelegationState {
-        total_delegation: Amount(pool[at]),
-        delta_delegation: pool[at + 1],
+    // The publisher's key at seat s.
+    pub fn publisher(self, s: usize) -> Key
+        requires { s < self.p }
+        ensures { result ≡ publisher_at (words_of self.entry) s }
+    {
+        self.key_at(2 + s * 4)
     }
-}
 
-// The fee of seat s.
-pub fn delegation_fee(pool: &[u64], p: usize, e: usize, s: usize) -> u64
-    requires { Sized pool.now p e × (s < p) }
-    ensures { result ≡ read p e pool.now (seat s delegation_fees) }
-{
-    let at = num_events_at(p, e) + 1 + p + s;
-    pool[at]
-}
+    // The publisher's stake account at seat s.
+    pub fn publisher_stake_account(self, s: usize) -> Key
+        requires { s < self.p }
+        ensures { result ≡ stake_account_at (words_of self.entry) s }
+    {
+        self.key_at(2 + 8 * self.p + s * 4)
+    }
 
-// Seats count up to the first zero key.
-pub fn seats(pool: &[u64], p: usize, e: usize) -> usize
-    requires { Sized pool.now p e }
-    ensures { result ≡ seats_of p (read p e pool.now) }
-{
-    let mut s = 0;
-    while s < p {
-        let key = publisher(pool, p, e, s);
-        let empty = same_key(key, Key(0, 0, 0, 0));
-        if empty {
-            return s;
+    // One side of seat s.
+    pub fn side(self, s: usize, is_self: bool) -> DelegationState
+        requires { s < self.p }
+        ensures { result ≡ side_at (words_of self.entry) s (whose is_self) }
+    {
+        let at = side_place(self.p, s, is_self);
+        DelegationState {
+            total_delegation: Amount(self.words[at]),
+            delta_delegation: self.words[at + 1],
         }
-        s += 1;
     }
-    s
-}
 
-// The first of all seats that has the publisher's key.
-pub fn get_publisher_index(pool: &[u64], p: usize, e: usize, key: Key) -> PublisherIndex
-    requires { Sized pool.now p e }
-    ensures { publisher_index_is result ≡ publisher_index_of p (read p e pool.now) key }
-{
-    let zero = same_key(key, Key(0, 0, 0, 0));
-    if zero {
-        return PublisherIndex::InvalidPublisher;
+    // The fee of seat s.
+    pub fn delegation_fee(self, s: usize) -> u64
+        requires { s < self.p }
+        ensures { result ≡ words_of self.entry (seat s delegation_fees) }
+    {
+        self.words[num_events_at(self.p, self.e) + 1 + self.p + s]
     }
-    let mut s = 0;
-    while s < p {
-        let found = publisher(pool, p, e, s);
-        let same = same_key(found, key);
-        if same {
-            return PublisherIndex::Index(s);
+
+    // The first of all seats that has this key.
+    fn first_seat(self, key: Key) -> Option<usize>
+        ensures first { unwrap_or result self.entry.p ≡ first_seat self.entry.p (words_of self.entry) key }
+        ensures found { IfSome result (λ s. s < self.entry.p) }
+    {
+        (0..self.p).find(|&s| self.publisher(s) == key)
+    }
+
+    // Seats count up to the first zero key.
+    #[tactic(auto, unfolding(crate::specs::Seats::seats_of, crate::specs::Seats::first_seat, crate::specs::Seats::empty_seat))]
+    pub fn seats(self) -> usize
+        ensures { result ≡ seats_of self.entry.p (words_of self.entry) }
+    {
+        self.first_seat(Key::default()).unwrap_or(self.p)
+    }
+
+    // A publisher's seat.
+    #[tactic(auto, unfolding(crate::specs::Seats::publisher_index_of, positions::specs::Key::same_key))]
+    pub fn get_publisher_index(self, key: Key) -> Result<usize, Refusal>
+        ensures { outcome_of result ≡ publisher_index_of self.entry.p (words_of self.entry) key }
+    {
+        if key == Key::default() {
+            return Err(Refusal::InvalidPublisher);
         }
-        s += 1;
+        self.first_seat(key).ok_or(Refusal::PublisherNotFound)
     }
-    PublisherIndex::PublisherNotFound
 }
 
-// Seat s gets a publisher's key.
-pub fn set_publisher(pool: &mut [u64], p: usize, e: usize, s: usize, key: Key)
-    requires { Sized pool.old p e × (s < p) }
-    ensures { pool.new ≡ image p e (with_publisher (read p e pool.old) s key) }
-{
-    let at = 2 + s * 4;
-    pool[at] = key.0;
-    pool[at + 1] = key.1;
-    pool[at + 2] = key.2;
-    pool[at + 3] = key.3;
-}
+impl PoolDataMut<'_> {
+    // Seat s gets a publisher's key.
+    #[tactic(auto, using(crate::proofs::WriteLaws::key_written))]
+    pub fn set_publisher(&mut self, s: usize, key: Key)
+        requires { s < self.old.p }
+        ensures { Becomes self.old self.new (with_publisher (words_in self.old) s key) }
+    {
+        write_key(&mut self.words[..], 2 + s * 4, key);
+    }
 
-// The other side of seat s becomes this one.
-pub fn set_del_state(pool: &mut [u64], p: usize, e: usize, s: usize, side: DelegationState)
-    requires { Sized pool.old p e × (s < p) }
-    ensures { pool.new ≡ image p e (with_side (read p e pool.old) s other side) }
-{
-    let at = 2 + 4 * p + s * 2;
-    pool[at] = side.total_delegation.0;
-    pool[at + 1] = side.delta_delegation;
-}
-
-// The self side of seat s becomes this one.
-pub fn set_self_del_state(pool: &mut [u64], p: usize, e: usize, s: usize, side: DelegationState)
-    requires { Sized pool.old p e × (s < p) }
-    ensures { pool.new ≡ image p e (with_side (read p e pool.old) s self side) }
-{
-    let at = 2 + 6 * p + s * 2;
-    pool[at] = side.total_delegation.0;
-    pool[at + 1] = side.delta_delegation;
+    // One side of seat s becomes this one.
+    #[tactic(auto, using(crate::proofs::WriteLaws::side_written))]
+    pub fn set_side(&mut self, s: usize, is_self: bool, side: DelegationState)
+        requires { s < self.old.p }
+        ensures { Becomes self.old self.new (with_side (words_in self.old) s (whose is_self) side) }
+    {
+        let at = side_place(self.p, s, is_self);
+        self.words[at] = side.total_delegation.0;
+        self.words[at + 1] = side.delta_delegation;
+    }
 }

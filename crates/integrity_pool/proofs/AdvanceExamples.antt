@@ -6,10 +6,9 @@ use Prim.Native.Nat.{ℕ, zero, suc, ◌+◌, ◌-◌, ◌*◌, ◌/◌, ◌%◌
 use lib.ListN.{length}
 use Rattle.types.specs.Base.{word, half, Outcome, refused, accepted, map_outcome}
 use Rattle.image.specs.Layout.{self, other, last_updated_epoch, claimable_rewards, num_events, publishers, total_delegation, delta_delegation, publisher_stake_accounts, num_slash_events, delegation_fees, event_epoch, event_y, extra_space, reward_ratio, event_fee, Field, head, seat, slot, share, Words, size, addr, read, image}
-use Rattle.image.proofs.HoldsLaws.{put}
 use Rattle.advance_plan.specs.declared.Given.{Given}
 use Rattle.integrity_pool.specs.Calls.{fresh_call, fresh_image, advance_call, advance_image, forecast_call}
-use Rattle.integrity_pool.proofs.Computing.{advances}
+use Rattle.integrity_pool.proofs.Computing.{put, advances}
 
 -- ---- the image at P 2 and E 4, and its size
 

@@ -5,13 +5,11 @@ use mathlib.Core.List.{List, [], ◌∷◌}
 use Prim.Native.Nat.{ℕ, ◌-◌}
 use Rattle.types.specs.Base.{word, half, Outcome, refused, accepted}
 use Rattle.positions.specs.declared.Key.{Key}
-use Rattle.positions.specs.declared.OptionKey.{OptionKey}
-use Rattle.positions.specs.declared.OptionKey.TheVariants.{Some, None}
+use Rattle.std.specs.Prelude.{Option, Some, None}
 use Rattle.positions.specs.declared.position.PositionState.TheVariants.{LOCKING, LOCKED, PREUNLOCKING, UNLOCKING, UNLOCKED}
 use Rattle.image.specs.Layout.{self, other, last_updated_epoch, publishers, total_delegation, delta_delegation, publisher_stake_accounts, num_slash_events, delegation_fees, Field, head, seat, Words, image}
 use Rattle.image.specs.Seats.{zero_key}
 use Rattle.image.specs.Changes.{Change, nothing, side, slash_events, stake_account, fees, changed_image}
-use Rattle.image.proofs.HoldsLaws.{put}
 use Rattle.pool.specs.declared.changes.Delegation.{Delegation}
 use Rattle.integrity_pool.specs.declared.slash.Slashing.{Slashing}
 use Rattle.integrity_pool.specs.declared.stake_account.StakeAccounts.{StakeAccounts}
@@ -230,7 +228,7 @@ abbrev kind3 : List ℕ
 kind3 = 3 ∷ 0 ∷ 0 ∷ 0 ∷ 0 ∷ 0 ∷ 0 ∷ 0 ∷ 0 ∷ []
 
 -- the reward authority is 1 1, the old account's owner 2 2
-abbrev given : (publisher signer : Key) → (current new : OptionKey) → StakeAccounts
+abbrev given : (publisher signer : Key) → (current new : Option Key) → StakeAccounts
 given publisher signer current new = record {
   publisher = publisher;
   signer = signer;

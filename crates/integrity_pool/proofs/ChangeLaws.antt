@@ -4,16 +4,20 @@ use mathlib.Core.Bool.{true, false}
 use mathlib.Core.List.{List}
 use Prim.Native.Nat.{ℕ, ◌≤◌, ◌<◌}
 use borrow.Author.Tests.{lt-ltb, le-ltb}
-use Rattle.types.specs.Base.{M, Outcome, refused, accepted}
-use Rattle.types.specs.Refusals.{invalid_image, invalid_delegation_fee}
-use Rattle.positions.specs.declared.position.PositionState.{PositionState}
-use Rattle.image.specs.Layout.{read, image}
+use Rattle.std.specs.Borrow.{MutBor}
+use Rattle.std.specs.Prelude.{Result, Err, ltb, if◌then◌else◌}
+use Rattle.types.specs.Base.{M, Outcome, refused, accepted, outcome_of}
+use Rattle.types.specs.Refusals.{invalid_image, invalid_delegation_fee, number_of}
+use Rattle.types.specs.declared.refusals.Refusal.{Refusal}
+use Rattle.types.specs.declared.refusals.Refusal.TheVariants.{InvalidImage}
+use Rattle.image.specs.declared.pool_data.PoolDataMut.{PoolDataMut}
+use Rattle.image.specs.Layout.{Words, read, image}
+use Rattle.image.specs.Pool.{words_in, Becomes, LentMut}
 use Rattle.image.specs.Seats.{checked_image}
-use Rattle.image.specs.Changes.{Change, fees, with_fees, changed, changed_image, acceptance}
+use Rattle.image.specs.Changes.{Change, fees, changed, changed_image, acceptance}
 use Rattle.image.proofs.ChangeWrites.{refused_leaves, refused_answers}
-use Rattle.pool.specs.declared.changes.Delegation.{Delegation}
-use Rattle.pool.specs.Changes.{add_delegation, remove_delegation}
-use Rattle.integrity_pool.specs.Changes.{checked_image_then, add_call, remove_call, fee_call}
+use Rattle.pool.specs.Changes.{ChangesAs}
+use Rattle.integrity_pool.specs.Changes.{checked_image_then}
 
 -- ---- the shape of every call
 
@@ -45,41 +49,43 @@ module _ {A : Type 0} (answer : Outcome Change → Outcome A) (P E : ℕ) (img :
   unfolding checked_image_then
   told_on o l rest h t = told_as o l rest (checked_image_then P E img rest) (rw h) t
 
--- ---- add and remove
+-- ---- a function's result
 
-module _ (P E : ℕ) (img : List ℕ) (d : Delegation) (amount : ℕ) where
-  pub add_1 : checked_image P E img ≡ false → Told acceptance P E img (refused invalid_image) img (add_call P E img d amount)
-  unfolding add_call
-  add_1 h = told_1 acceptance P E img (refused_answers invalid_image) _ h
+module _ (P E : ℕ) (img : List ℕ) (rest : Outcome Change) where
+  -- 1
+  pub not_checked : (x : Refusal) (r : Result (Unit {0}) Refusal) → (checked_image P E img ≡ false) × (x ≡ InvalidImage) → r ≡ Err x
+      → Told acceptance P E img (outcome_of r) img (checked_image_then P E img rest)
+  not_checked x r h q = rw (q, h.1) (told_1 acceptance P E img (refused_answers invalid_image) rest h.0)
 
-  pub add_on : checked_image P E img ≡ true → (o : Outcome (Unit {0})) (l : List ℕ)
-      → Told acceptance P E img o l (add_delegation P (read P E img) d amount) → Told acceptance P E img o l (add_call P E img d amount)
-  unfolding add_call
-  add_on h o l t = told_on acceptance P E img o l _ h t
+  module _ (checked : checked_image P E img ≡ true) where
+    -- another refusal, the pool not yet written
+    pub refused_on : (x : Refusal) (r : Result (Unit {0}) Refusal) → refused (number_of x) ≡ rest → r ≡ Err x
+        → Told acceptance P E img (outcome_of r) img (checked_image_then P E img rest)
+    refused_on x r e q = rw q (told_on acceptance P E img _ _ rest checked (told_refused acceptance P E img (number_of x) (refused_answers (number_of x)) rest e))
 
-  module _ (state : PositionState) where
-    pub remove_1 : checked_image P E img ≡ false → Told acceptance P E img (refused invalid_image) img (remove_call P E img d amount state)
-    unfolding remove_call
-    remove_1 h = told_1 acceptance P E img (refused_answers invalid_image) _ h
+    -- a change that is written
+    pub written_on : (x : Change) (l : List ℕ) → accepted x ≡ rest → l ≡ image P E (changed (read P E img) x)
+        → Told acceptance P E img (accepted tt) l (checked_image_then P E img rest)
+    unfolding acceptance
+    written_on x l e q = told_on acceptance P E img (accepted tt) l rest checked (told_accepted acceptance P E img tt l x rest refl e q)
 
-    pub remove_on : checked_image P E img ≡ true → (o : Outcome (Unit {0})) (l : List ℕ)
-        → Told acceptance P E img o l (remove_delegation P (read P E img) d amount state) → Told acceptance P E img o l (remove_call P E img d amount state)
-    unfolding remove_call
-    remove_on h o l t = told_on acceptance P E img o l _ h t
+-- what is done on the pool that was lent is the call's
+module _ (P E : ℕ) (lent : MutBor (List ℕ)) (pool : PoolDataMut) (h : LentMut P E lent pool) (new : PoolDataMut) where
+  pub changes_on : (o : ℕ → Words → Outcome Change) → checked_image P E lent.now ≡ true → (r : Result (Unit {0}) Refusal)
+      → ChangesAs pool new (o pool.p (words_in pool)) r
+      → Told acceptance P E lent.now (outcome_of r) new.words.now (checked_image_then P E lent.now (o P (read P E lent.now)))
+  changes_on o checked r t =
+      told_on acceptance P E lent.now _ _ (o P (read P E lent.now)) checked
+      (rw (h.p, h.e, h.words) at t.answer, rw (h.p, h.e, h.words) at t.image)
 
--- ---- every seat's fee: 1, 6
+  pub becomes_on : (f : Words → Words) → Becomes pool new (f (words_in pool)) → new.words.now ≡ image P E (f (read P E lent.now))
+  becomes_on f t = rw (h.p, h.e, h.words) at t.words
 
-module _ (P E : ℕ) (img : List ℕ) (fee : ℕ) where
-  pub fee_1 : checked_image P E img ≡ false → Told acceptance P E img (refused invalid_image) img (fee_call P E img fee)
-  unfolding fee_call
-  fee_1 h = told_1 acceptance P E img (refused_answers invalid_image) _ h
+-- ---- every seat's fee: 6
 
-  module _ (h : checked_image P E img ≡ true) where
-    pub fee_6 : M < fee → Told acceptance P E img (refused invalid_delegation_fee) img (fee_call P E img fee)
-    unfolding fee_call
-    fee_6 l =
-        told_on acceptance P E img _ _ _ h (told_refused acceptance P E img invalid_delegation_fee (refused_answers invalid_delegation_fee) _ (rw (lt-ltb M fee l)))
+module _ (fee : ℕ) where
+  pub fee_refused : M < fee → refused invalid_delegation_fee ≡ (if ltb M fee then refused invalid_delegation_fee else accepted (fees fee))
+  fee_refused l = rw (lt-ltb M fee l) refl
 
-    pub fee_done : fee ≤ M → (l : List ℕ) → l ≡ image P E (with_fees (read P E img) fee) → Told acceptance P E img (accepted tt) l (fee_call P E img fee)
-    unfolding fee_call acceptance
-    fee_done b l q = told_on acceptance P E img _ _ _ h (told_accepted acceptance P E img tt l (fees fee) _ refl (rw (le-ltb M fee b)) q)
+  pub fee_set : fee ≤ M → accepted (fees fee) ≡ (if ltb M fee then refused invalid_delegation_fee else accepted (fees fee))
+  fee_set l = rw (le-ltb M fee l) refl

@@ -1,4 +1,7 @@
 -- What the worked examples compute with: to open one of these is to open all that its line names. Assumes nothing.
+use Prim.Native.Nat.{ℕ}
+use mathlib.Core.Bool.{cond}
+use lib.Dec.{eqb}
 use Rattle.types.specs.Base.{sum_below, all_below, any_below, count_below, first_below}
 use Rattle.positions.specs.Key.{same_key}
 use Rattle.positions.specs.State.{state_by}
@@ -10,10 +13,9 @@ use Rattle.event.specs.Eligible.{self_eligible, other_eligible, ratio_of}
 use Rattle.event.specs.Adjust.{rewards_of, lowered_by, adjust_of}
 use Rattle.event.specs.Event.{rate_of, total_of, shared, reward_of, event_reward}
 use Rattle.delegation.specs.Side.{rolled, roll_fits, raised_of, lowered_of, add_of, remove_of, slash_of}
-use Rattle.image.specs.Layout.{if_below, if_equal, side_field, event_field, field_of, read, tabulate, image}
+use Rattle.image.specs.Layout.{Field, Words, addr, if_below, if_equal, side_field, event_field, field_of, read, tabulate, image}
 use Rattle.image.specs.Seats.{sized_image, checked_image, empty_seat, seats_of, first_seat, publisher_index_of, with_side}
 use Rattle.image.specs.Changes.{self_side, with_slash_events, with_stake_account, with_fees, changed_image}
-use Rattle.image.proofs.HoldsLaws.{put}
 use Rattle.advance_plan.specs.Advance.{key_number, seat_cap, seat_rolls, eligible_at, ratio_at, eligible_in, ratio_in, eligible_sum, forecast_sum, matched_row, key_after, event_written, events_after, adjustment_of, matched_rows, answer_with, advance_of, forecast_of}
 use Rattle.event_walk.specs.Walk.{walk_length, walk_slot, walk_epoch, walk_meets, walk_reads, drawn_in, walk_fits, drawn_at, slot_amount, gather_fits, reads_of}
 use Rattle.pool.specs.Reward.{slot_reward, reward_sum, calculate_reward}
@@ -23,6 +25,10 @@ use Rattle.integrity_pool.specs.Payment.{custody_fall, pay_out, payment_at, paym
 use Rattle.integrity_pool.specs.Changes.{checked_image_then, add_call, remove_call, create_at, create_slash_event_call, created_in, wrong_order, slash_order, slash_change, slash_call, slashed_with, fee_call, account_holds, first_account, later_account, may_change, new_account, stake_account_at_seat, stake_account_call}
 
 -- ---- numbers, keys, words by name
+
+-- one word changed
+unfoldable pub put : ℕ → ℕ → Words → Field → ℕ → Words
+put P E w f v g = cond (eqb (addr P E g) (addr P E f)) v (w g)
 
 unfoldable pub words : Unit {0}
 unfolding sum_below all_below any_below count_below first_below same_key put read tabulate image field_of event_field side_field if_equal if_below sized_image checked_image empty_seat seats_of first_seat publisher_index_of

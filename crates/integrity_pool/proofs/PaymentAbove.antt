@@ -12,8 +12,7 @@ use Rattle.types.specs.Base.{word, Outcome, refused, accepted, is_accepted, sum_
 use Rattle.types.specs.Refusals.{invalid_publisher, publisher_not_found, payment_above_claimable}
 use Rattle.types.proofs.OutcomeLaws.{not_accepted, test_refused, test_refuses, map_refused, then_refused}
 use Rattle.positions.specs.declared.Key.{Key}
-use Rattle.positions.specs.declared.OptionKey.{OptionKey}
-use Rattle.positions.specs.declared.OptionKey.TheVariants.{Some, None}
+use Rattle.std.specs.Prelude.{Option, Some, None}
 use Rattle.positions.specs.Key.{same_key}
 use Rattle.positions.specs.Positions.{positions_hold}
 use Rattle.event.specs.Event.{Parts}
@@ -51,7 +50,7 @@ reward_not_16 E w s words publisher from unlocking self_side e =
     let t = test_refused (not (gather_fits E w words publisher from unlocking)) _ _ _ (λ q. omega arith) e in
     sum_not_16 _ _ (map_refused (earned_with (reads_of E w words publisher from)) _ _ t.1)
 
-fall_not_16 : (stake_account : Key) (account : OptionKey) (custody delegator both : ℕ)
+fall_not_16 : (stake_account : Key) (account : Option Key) (custody delegator both : ℕ)
     → custody_fall stake_account account custody delegator both ≢ refused payment_above_claimable
 unfolding custody_fall
 fall_not_16 stake_account (Some key) custody delegator both e =

@@ -5,13 +5,11 @@ use mathlib.Core.List.{List, [], ◌∷◌, ◌++◌}
 use Prim.Native.Nat.{ℕ, ◌-◌}
 use Rattle.types.specs.Base.{word, half, Outcome, refused, accepted, map_outcome}
 use Rattle.positions.specs.declared.Key.{Key}
-use Rattle.positions.specs.declared.OptionKey.{OptionKey}
-use Rattle.positions.specs.declared.OptionKey.TheVariants.{Some, None}
-use Rattle.image.specs.Layout.{self, other, last_updated_epoch, claimable_rewards, num_events, publishers, publisher_stake_accounts, event_epoch, event_y, reward_ratio, event_fee, Field, head, seat, slot, share, Words, read, image}
+use Rattle.std.specs.Prelude.{Option, Some, None}
+use Rattle.image.specs.Layout.{self, other, last_updated_epoch, claimable_rewards, num_events, publishers, publisher_stake_accounts, event_epoch, event_y, reward_ratio, event_fee, Field, head, seat, slot, share, Words, image}
 use Rattle.image.specs.Seats.{zero_key}
-use Rattle.image.proofs.HoldsLaws.{put}
 use Rattle.integrity_pool.specs.declared.payment.Claim.{Claim}
-use Rattle.integrity_pool.specs.Payment.{custody_fall, payment_call, payment_image}
+use Rattle.integrity_pool.specs.Payment.{payment_call, payment_image}
 use Rattle.integrity_pool.proofs.Computing.{payments}
 use Rattle.integrity_pool.proofs.AdvanceExamples.{set_to}
 
@@ -67,7 +65,7 @@ strangers =
     ∷ 2 ∷ 1_000_000 ∷ 5 ∷ 0 ∷ 0 ∷ 7 ∷ 0 ∷ 0 ∷ 8
     ∷ []
 
-abbrev claim : (from now custody : ℕ) → (publisher account : Key) → OptionKey → Claim
+abbrev claim : (from now custody : ℕ) → (publisher account : Key) → Option Key → Claim
 claim from now custody publisher account publisher_account = record {
   delegation_record = record { last_epoch = record { 0 = from }; next_slash_event_index = 2 };
   publisher = publisher;
@@ -79,7 +77,7 @@ claim from now custody publisher account publisher_account = record {
 }
 
 -- by a staker in epoch 15, with the custody flag
-abbrev claimed : (from : ℕ) → OptionKey → Claim
+abbrev claimed : (from : ℕ) → Option Key → Claim
 claimed from publisher_account = claim from 15 1 publisher (key 8 8) publisher_account
 
 -- the delegator's part, the publisher's, by how much custody falls, the record's epoch and next slash index, the read count

@@ -1,25 +1,19 @@
 -- A payment, one law for each way out of the code, and what it writes. Assumes nothing.
 use mathlib.Core.Path.{◌≡◌, refl, sym, ap, ◌∙◌}
-use mathlib.Core.Logic.{◌≢◌}
-use mathlib.Core.Bool.{Bool, true, false, not}
+use mathlib.Core.Bool.{true, false, not}
 use mathlib.Core.List.{List}
 use Prim.Native.Nat.{ℕ, ◌+◌, ◌-◌, ◌≤◌, ◌<◌}
-use native.Mathlib.Omega.{arith}
 use lib.Dec.{ltb, eqb}
-use lib.ListN.{length, get_or, set}
 use borrow.Author.Tests.{lt-ltb, le-ltb, eq-eqb, ne_eqb, ltb-false}
 use Rattle.types.specs.Base.{Outcome, refused, accepted, and_then}
-use Rattle.types.specs.Refusals.{invalid_image, invalid_positions, outdated_publisher_accounting, does_not_fit, payment_above_claimable, publisher_stake_account_mismatch, publisher_custody_account_required}
+use Rattle.types.specs.Refusals.{invalid_image, invalid_positions, outdated_publisher_accounting, does_not_fit, payment_above_claimable}
 use Rattle.types.proofs.OutcomeLaws.{test_passed, then_accepts}
 use Rattle.positions.specs.declared.Key.{Key}
-use Rattle.positions.specs.declared.OptionKey.{OptionKey}
-use Rattle.positions.specs.declared.OptionKey.TheVariants.{Some, None}
-use Rattle.positions.specs.Key.{same_key}
+use Rattle.std.specs.Prelude.{Option, None}
 use Rattle.positions.specs.Positions.{positions_hold}
-use Rattle.image.specs.Layout.{last_updated_epoch, claimable_rewards, num_events, Field, head, seat, slot, share, Words, size, InRange, read, image}
-use Rattle.image.specs.Seats.{checked_image, zero_key, stake_account_at, publisher_index_of}
-use Rattle.image.proofs.SeatLaws.{read_at}
-use Rattle.image.proofs.HoldsLaws.{put, put_at, put_apart, holds_itself, holds_is, holds_ext, holds_set}
+use Rattle.image.specs.Layout.{last_updated_epoch, claimable_rewards, num_events, Field, head, seat, slot, share, Words, InRange, read, image}
+use Rattle.image.specs.Seats.{checked_image, stake_account_at, publisher_index_of, with_head}
+use Rattle.image.proofs.HoldsLaws.{same_image}
 use Rattle.event_walk.specs.declared.EventAmounts.{EventAmounts}
 use Rattle.event_amounts.specs.Gathered.{GatheredOf}
 use Rattle.pool.specs.Reward.{Earned, reward_of}
@@ -28,32 +22,6 @@ use Rattle.integrity_pool.specs.declared.payment.Claim.{Claim}
 use Rattle.integrity_pool.specs.declared.payment.DelegationRecord.{DelegationRecord}
 use Rattle.image.specs.Changes.{self_side}
 use Rattle.integrity_pool.specs.Payment.{record_at, custody_fall, Payment, payment_with, pay_out, payment_at, payment_of, gathered_payment_at, gathered_payment, gathered_call, paid_words, paid_image, payment_call, payment_image}
-
--- ---- the publisher account: 17, 18, by how much custody falls
-
-module _ (stake_account : Key) (custody delegator both : ℕ) where
-  module _ (account : OptionKey) (n : account ≡ None) where
-    pub none_17 : same_key stake_account zero_key ≡ false → refused publisher_stake_account_mismatch ≡ custody_fall stake_account account custody delegator both
-    unfolding custody_fall
-    none_17 h = rw (n, h)
-
-    pub none_falls : same_key stake_account zero_key ≡ true → accepted delegator ≡ custody_fall stake_account account custody delegator both
-    unfolding custody_fall
-    none_falls h = rw (n, h)
-
-  module _ (account : OptionKey) (key : Key) (k : account ≡ Some key) where
-    pub key_17 : same_key stake_account key ≡ false → refused publisher_stake_account_mismatch ≡ custody_fall stake_account account custody delegator both
-    unfolding custody_fall
-    key_17 h = rw (k, h)
-
-    pub key_18 : same_key stake_account key ≡ true → custody ≡ 0
-        → refused publisher_custody_account_required ≡ custody_fall stake_account account custody delegator both
-    unfolding custody_fall
-    key_18 h z = rw (k, h, eq-eqb custody 0 z)
-
-    pub key_falls : same_key stake_account key ≡ true → (custody ≡ 0 → ⊥) → accepted both ≡ custody_fall stake_account account custody delegator both
-    unfolding custody_fall
-    key_falls h z = rw (k, h, ne_eqb custody 0 z)
 
 -- ---- what is paid of what has been earned
 
@@ -93,29 +61,32 @@ out_covered claimable stake_account c r a e =
 
 -- ---- with the publisher at seat s: 12, 13
 
-module _ (E : ℕ) (w : Words) (g : EventAmounts) (c : Claim) (s last : ℕ) (l : last ≡ w (head last_updated_epoch)) where
-  pub at_12 : (last ≡ c.current_epoch → ⊥) → refused outdated_publisher_accounting ≡ gathered_payment_at E w g c s
+module _ (E : ℕ) (w : Words) (g : Option EventAmounts) (c : Claim) (s : ℕ) where
+  -- positions' amounts that do not fit
+  pub at_none : g ≡ None → refused does_not_fit ≡ reward_of E w s g (self_side w s c.stake_account_positions)
+  unfolding reward_of
+  at_none n = rw n refl
+
+  pub at_12 : (w (head last_updated_epoch) ≡ c.current_epoch → ⊥) → refused outdated_publisher_accounting ≡ gathered_payment_at E w g c s
   unfolding gathered_payment_at
-  at_12 h = rw (ne_eqb (w (head last_updated_epoch)) c.current_epoch (λ e. h (l ∙ e)))
+  at_12 n = rw (ne_eqb (w (head last_updated_epoch)) c.current_epoch n) refl
 
-  module _ (e : last ≡ c.current_epoch) (stake_account : Key) (a : stake_account ≡ stake_account_at w s)
-      (side : Bool) (d : side ≡ same_key stake_account c.stake_account_positions) (o : Outcome Earned) (q : o ≡ reward_of E w s g side) where
-    at_on : and_then o (pay_out (w (head claimable_rewards)) stake_account c) ≡ gathered_payment_at E w g c s
-    unfolding gathered_payment_at self_side
-    at_on = rw (eq-eqb (w (head last_updated_epoch)) c.current_epoch (sym l ∙ e), q, d, a)
+  module _ (e : w (head last_updated_epoch) ≡ c.current_epoch) where
+    at_on : (o : Outcome Earned) → o ≡ reward_of E w s g (self_side w s c.stake_account_positions)
+        → and_then o (pay_out (w (head claimable_rewards)) (stake_account_at w s) c) ≡ gathered_payment_at E w g c s
+    unfolding gathered_payment_at
+    at_on o q = rw (q, eq-eqb (w (head last_updated_epoch)) c.current_epoch e) refl
 
-    pub at_13 : o ≡ refused does_not_fit → refused does_not_fit ≡ gathered_payment_at E w g c s
-    at_13 h = ap (λ (x : Outcome Earned). and_then x (pay_out (w (head claimable_rewards)) stake_account c)) (sym h) ∙ at_on
+    pub at_refused : (k : ℕ) → refused k ≡ reward_of E w s g (self_side w s c.stake_account_positions) → refused k ≡ gathered_payment_at E w g c s
+    at_refused k q = at_on (refused k) q
 
-    pub at_pays : (r : Earned) (claimable : ℕ) (x : Outcome Payment) → o ≡ accepted r → claimable ≡ w (head claimable_rewards)
-        → x ≡ pay_out claimable stake_account c r → x ≡ gathered_payment_at E w g c s
-    at_pays r claimable x h m y =
-        y ∙ ap (λ (n : ℕ). pay_out n stake_account c r) m
-        ∙ ap (λ (x : Outcome Earned). and_then x (pay_out (w (head claimable_rewards)) stake_account c)) (sym h) ∙ at_on
+    pub at_pays : (r : Earned) → accepted r ≡ reward_of E w s g (self_side w s c.stake_account_positions) → (x : Outcome Payment)
+        → x ≡ pay_out (w (head claimable_rewards)) (stake_account_at w s) c r → x ≡ gathered_payment_at E w g c s
+    at_pays r q x y = y ∙ at_on (accepted r) q
 
 -- ---- 10, 11
 
-module _ (P E : ℕ) (w : Words) (g : EventAmounts) (c : Claim) where
+module _ (P E : ℕ) (w : Words) (g : Option EventAmounts) (c : Claim) where
   pub of_refused : (k : ℕ) → refused k ≡ publisher_index_of P w c.publisher → refused k ≡ gathered_payment P E w g c
   unfolding gathered_payment
   of_refused k e = ap (λ (x : Outcome ℕ). and_then x (gathered_payment_at E w g c)) e
@@ -151,52 +122,39 @@ module _ (P E : ℕ) (w : Words) (g : EventAmounts) (c : Claim) where
 
 -- ---- the image: claimable falls, every other word stays
 
-paid_image_law : (P E : ℕ) (img : List ℕ) (paid : ℕ) → length img ≡ size P E
-    → set img 1 (read P E img (head claimable_rewards) - paid) ≡ image P E (paid_words (read P E img) paid)
-paid_image_law P E img paid long =
-    holds_is P E (paid_words w paid) _ (holds_ext P E (put P E w (head claimable_rewards) left) (paid_words w paid) _
-    (holds_set P E w img (head claimable_rewards) left 1 (holds_itself P E img long) tt refl) words)
+paid_image_law : (P E : ℕ) (w : Words) (paid : ℕ)
+    → image P E (with_head w claimable_rewards (w (head claimable_rewards) - paid)) ≡ image P E (paid_words w paid)
+unfolding with_head
+paid_image_law P E w paid = same_image P E (with_head w claimable_rewards (w (head claimable_rewards) - paid)) (paid_words w paid) words
   where
-    w : Words
-    w = read P E img
-
-    left : ℕ
-    left = w (head claimable_rewards) - paid
-
-    far : (f : Field) → InRange P E f → f ≢ head claimable_rewards → put P E w (head claimable_rewards) left f ≡ w f
-    far f r ne = put_apart P E w (head claimable_rewards) f left tt r ne
-
-    words : (f : Field) → InRange P E f → put P E w (head claimable_rewards) left f ≡ paid_words w paid f
-    words (head last_updated_epoch) r = far (head last_updated_epoch) r (λ e. let x : ◌≡◌ {A = ℕ} 0 1 = cc in omega arith)
-    words (head claimable_rewards) r = put_at P E w (head claimable_rewards) left
-    words (head num_events) r = far (head num_events) r (λ e. let x : ◌≡◌ {A = ℕ} 0 1 = cc in omega arith)
-    words (seat s x) r = far (seat s x) r (λ e. let x : ◌≡◌ {A = ℕ} 0 1 = cc in omega arith)
-    words (slot t x) r = far (slot t x) r (λ e. let x : ◌≡◌ {A = ℕ} 0 1 = cc in omega arith)
-    words (share t s x) r = far (share t s x) r (λ e. let x : ◌≡◌ {A = ℕ} 0 1 = cc in omega arith)
+    words : (f : Field) → InRange P E f → with_head w claimable_rewards (w (head claimable_rewards) - paid) f ≡ paid_words w paid f
+    words (head last_updated_epoch) r = refl
+    words (head claimable_rewards) r = refl
+    words (head num_events) r = refl
+    words (seat s x) r = refl
+    words (slot t x) r = refl
+    words (share t s x) r = refl
 
 -- ---- what is written
 
-module _ (P E : ℕ) (img : List ℕ) (g : EventAmounts) (c : Claim) (o : Outcome Payment) (q : o ≡ gathered_payment P E (read P E img) g c) where
+module _ (P E : ℕ) (img : List ℕ) (g : Option EventAmounts) (c : Claim) (o : Outcome Payment) (q : o ≡ gathered_payment P E (read P E img) g c) where
   pub write_refused : (k : ℕ) → o ≡ refused k
       → (refused k ≡ gathered_payment P E (read P E img) g c) × (img ≡ paid_image P E img (gathered_payment P E (read P E img) g c))
   write_refused k e = let t = sym e ∙ q in (t, ap (paid_image P E img) t)
 
-  pub write_covered : (a : Payment) → o ≡ accepted a → a.delegator + a.publisher ≤ get_or img 1 0
-  write_covered a e =
-      let l = gathered_covered P E (read P E img) g c a (sym q ∙ e) in
-      omega (arith, read_at P E img (head claimable_rewards) 1 refl)
+  pub write_covered : (a : Payment) → o ≡ accepted a → a.delegator + a.publisher ≤ read P E img (head claimable_rewards)
+  write_covered a e = gathered_covered P E (read P E img) g c a (sym q ∙ e)
 
-  pub write_pays : length img ≡ size P E → (a : Payment) → o ≡ accepted a
-      → (accepted a ≡ gathered_payment P E (read P E img) g c)
-      × (set img 1 (get_or img 1 0 - (a.delegator + a.publisher)) ≡ paid_image P E img (gathered_payment P E (read P E img) g c))
-  write_pays long a e =
+  pub write_pays : (a : Payment) → o ≡ accepted a → (l : List ℕ)
+      → l ≡ image P E (with_head (read P E img) claimable_rewards (read P E img (head claimable_rewards) - (a.delegator + a.publisher)))
+      → (accepted a ≡ gathered_payment P E (read P E img) g c) × (l ≡ paid_image P E img (gathered_payment P E (read P E img) g c))
+  write_pays a e l w =
       let t = sym e ∙ q in
-      let m = read_at P E img (head claimable_rewards) 1 refl in
-      (t, rw m (paid_image_law P E img (a.delegator + a.publisher) long) ∙ ap (paid_image P E img) t)
+      (t, w ∙ (paid_image_law P E (read P E img) (a.delegator + a.publisher) ∙ ap (paid_image P E img) t))
 
 -- ---- 1
 
-module _ (P E : ℕ) (img : List ℕ) (g : EventAmounts) (c : Claim) where
+module _ (P E : ℕ) (img : List ℕ) (g : Option EventAmounts) (c : Claim) where
   pub gathered_1 : checked_image P E img ≡ false
       → (refused invalid_image ≡ gathered_call P E img g c) × (img ≡ paid_image P E img (gathered_call P E img g c))
   unfolding gathered_call
@@ -229,7 +187,7 @@ module _ (P E : ℕ) (img words : List ℕ) (c : Claim) where
     call_4 g = call_found invalid_positions (rw (h, g))
 
     -- what the positions gathered is paid
-    pub call_pays : positions_hold words ≡ true → (g : EventAmounts)
+    pub call_pays : positions_hold words ≡ true → (g : Option EventAmounts)
         → GatheredOf E (read P E img) words c.publisher c.delegation_record.last_epoch.0 c.unlocking_duration g
         → (o : Outcome Payment) (l : List ℕ) → o ≡ gathered_call P E img g c → l ≡ paid_image P E img (gathered_call P E img g c)
         → (o ≡ payment_call P E img words c) × (l ≡ payment_image P E img words c)

@@ -11,8 +11,7 @@ use borrow.Author.Tests.{ltb-false, eqb-true, not-false}
 use Rattle.types.specs.Base.{Outcome, refused, accepted, after}
 use Rattle.types.proofs.OutcomeLaws.{test_passed, then_accepts}
 use Rattle.positions.specs.declared.Key.{Key}
-use Rattle.positions.specs.declared.OptionKey.{OptionKey}
-use Rattle.positions.specs.declared.OptionKey.TheVariants.{Some, None}
+use Rattle.std.specs.Prelude.{Option, Some, None}
 use Rattle.positions.specs.Key.{same_key}
 use Rattle.positions.specs.Positions.{positions_hold}
 use Rattle.image.specs.Layout.{last_updated_epoch, claimable_rewards, num_events, Field, head, seat, slot, share, Words, InRange, read, image}
@@ -77,7 +76,7 @@ payment_covered P E w words c a e =
     rw (sym t.answer) t.covered
 
 -- by how much custody falls: at most by both parts
-fall_le : (stake_account : Key) (account : OptionKey) (custody delegator both fall : ℕ) → custody_fall stake_account account custody delegator both ≡ accepted fall
+fall_le : (stake_account : Key) (account : Option Key) (custody delegator both fall : ℕ) → custody_fall stake_account account custody delegator both ≡ accepted fall
     → delegator ≤ both → fall ≤ both
 unfolding custody_fall
 fall_le stake_account (Some key) custody delegator both fall e l =

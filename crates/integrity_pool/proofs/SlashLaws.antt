@@ -1,20 +1,24 @@
 -- Slash events and slashes, one law for each way out of the code. Assumes nothing.
 use mathlib.Core.Path.{◌≡◌, refl, sym, ap, ◌∙◌}
-use mathlib.Core.Bool.{true, false, not, and-false}
+use mathlib.Core.Bool.{true, false, and-false}
 use mathlib.Core.List.{List}
 use Prim.Native.Nat.{ℕ, ◌+◌, ◌≤◌, ◌<◌}
-use lib.Dec.{leb, ltb, eqb}
-use lib.ListN.{length}
-use borrow.Author.Tests.{lt-ltb, le-ltb, le-leb, lt-leb, leb-false, eq-eqb, ne_eqb}
-use Rattle.types.specs.Base.{word, Outcome, refused, accepted, map_outcome, and_then}
-use Rattle.types.specs.Refusals.{invalid_image, does_not_fit, outdated_delegator_accounting, wrong_slash_event_order, invalid_slash_event_index, slash_event_ahead_of_now}
-use Rattle.types.proofs.OutcomeLaws.{test_passed}
+use lib.Dec.{eqb}
+use borrow.Author.Tests.{lt-ltb, le-ltb, le-leb, lt-leb, eq-eqb, ne_eqb}
+use Rattle.types.specs.Base.{word, Outcome, refused, accepted, map_outcome, and_then, outcome_of}
+use Rattle.types.specs.Refusals.{number_of, invalid_image, does_not_fit, outdated_delegator_accounting, wrong_slash_event_order, invalid_slash_event_index, slash_event_ahead_of_now}
+use Rattle.types.proofs.OutcomeLaws.{map_accepted, map_refused}
+use Rattle.std.specs.Borrow.{MutBor}
+use Rattle.std.specs.Prelude.{Result, Ok, Err}
+use Rattle.types.specs.declared.refusals.Refusal.{Refusal}
+use Rattle.image.specs.declared.pool_data.PoolDataMut.{PoolDataMut}
+use Rattle.image.specs.Pool.{words_in, LentMut}
 use Rattle.positions.specs.declared.Key.{Key}
-use Rattle.image.specs.Layout.{num_slash_events, seat, size, read, image}
+use Rattle.image.specs.Layout.{num_slash_events, seat, read, image}
 use Rattle.image.specs.Seats.{checked_image, publisher_index_of}
-use Rattle.image.specs.Changes.{Change, nothing, slash_events, with_slash_events, acceptance}
+use Rattle.image.specs.Changes.{Change, slash_events, with_slash_events, changed_image, acceptance}
 use Rattle.image.proofs.HoldsLaws.{holds_itself, holds_is}
-use Rattle.pool.specs.Changes.{apply_slash}
+use Rattle.pool.specs.Changes.{apply_slash, ChangesAs}
 use Rattle.integrity_pool.specs.declared.payment.DelegationRecord.{DelegationRecord}
 use Rattle.integrity_pool.specs.declared.slash.Slashing.{Slashing}
 use Rattle.integrity_pool.specs.Changes.{create_at, create_slash_event_call, created_in, wrong_order, slash_order, slash_change, slash_call, slashed_record, slashed_with}
@@ -138,49 +142,65 @@ module _ (x : Slashing) where
               lt-leb word (x.index + 1) h,
             )
 
-  -- 13 for the next index was not due
-  pub order_fits : accepted tt ≡ slash_order x → x.index + 1 < word
-  unfolding slash_order
-  order_fits e =
-      let t0 = test_passed (not (eqb x.delegation_record.last_epoch.0 x.delegation.current_epoch)) _ _ tt (sym e) in
-      let t1 = test_passed (ltb x.delegation.current_epoch x.slash_event_epoch.0) _ _ tt t0.1 in
-      let t2 = test_passed (wrong_order _ _ _ _) _ _ tt t1.1 in
-      leb-false word (x.index + 1) (test_passed (leb word (x.index + 1)) _ _ tt t2.1).0
+-- ---- a slash in its turn, on the pool that was lent
 
--- ---- a slash in its turn
+module _ (x : Slashing) (pool : PoolDataMut) where
+  -- the image is the one that holds its own words
+  pub turn_older : x.slash_event_epoch.0 < x.delegation.current_epoch → ChangesAs pool pool (slash_change pool.p (words_in pool) x) (Ok tt)
+  unfolding slash_change changed_image acceptance
+  turn_older h = rw (lt-ltb x.slash_event_epoch.0 x.delegation.current_epoch h) (record {
+    answer = refl;
+    same_loan = refl;
+    p = refl;
+    e = refl;
+    image = holds_is pool.p pool.e (words_in pool) pool.words.now (holds_itself pool.p pool.e pool.words.now pool.sized.size);
+  })
+
+  pub turn_applies : (new : PoolDataMut) (r : Result (Unit {0}) Refusal) → x.delegation.current_epoch ≤ x.slash_event_epoch.0
+      → ChangesAs pool new (apply_slash pool.p (words_in pool) x.delegation x.locked_slashed.0 x.preunlocking_slashed.0) r
+      → ChangesAs pool new (slash_change pool.p (words_in pool) x) r
+  unfolding slash_change
+  turn_applies new r h t = rw (le-ltb x.slash_event_epoch.0 x.delegation.current_epoch h) t
+
+-- ---- its order
+
+module _ (x : Slashing) where
+  pub order_refuses : (k : ℕ) → refused k ≡ map_outcome (λ passed. x.index + 1) (slash_order x) → refused k ≡ slash_order x
+  order_refuses k e = sym (map_refused (λ passed. x.index + 1) (slash_order x) k (sym e))
+
+  pub order_gives : (next : ℕ) → accepted next ≡ map_outcome (λ passed. x.index + 1) (slash_order x) → (accepted tt ≡ slash_order x) × (next ≡ x.index + 1)
+  order_gives next e =
+      let m = map_accepted (λ passed. x.index + 1) (slash_order x) next (sym e) in
+      (sym m.1.0, m.1.1)
+
+-- ---- the record that a slash answers with
+
+module _ (P E : ℕ) (lent : MutBor (List ℕ)) (pool : PoolDataMut) (h : LentMut P E lent pool) (x : Slashing) (new : PoolDataMut) where
+  -- the same change with the record for its answer
+  keeps : (c : Outcome Change) → map_outcome (λ y. slashed_record x) (acceptance c) ≡ slashed_with x c
+  unfolding acceptance slashed_with
+  keeps (refused k) = refl
+  keeps (accepted y) = refl
+
+  turned : (r : Result (Unit {0}) Refusal) → ChangesAs pool new (slash_change pool.p (words_in pool) x) r
+      → Told (slashed_with x) P E lent.now (map_outcome (λ y. slashed_record x) (outcome_of r)) new.words.now (slash_change P (read P E lent.now) x)
+  turned r t = (
+    ap (map_outcome (λ y. slashed_record x)) (rw (h.p, h.e, h.words) at t.answer) ∙ keeps (slash_change P (read P E lent.now) x),
+    rw (h.p, h.e, h.words) at t.image,
+  )
+
+  pub turn_refused : (k : Refusal) → ChangesAs pool new (slash_change pool.p (words_in pool) x) (Err k)
+      → Told (slashed_with x) P E lent.now (refused (number_of k)) new.words.now (slash_change P (read P E lent.now) x)
+  turn_refused k t = turned (Err k) t
+
+  pub turn_done : ChangesAs pool new (slash_change pool.p (words_in pool) x) (Ok tt)
+      → Told (slashed_with x) P E lent.now (accepted (slashed_record x)) new.words.now (slash_change P (read P E lent.now) x)
+  turn_done t = turned (Ok tt) t
 
 module _ (P E : ℕ) (img : List ℕ) (x : Slashing) where
   slashed_refuses : (k : ℕ) → slashed_with x (refused k) ≡ refused k
   unfolding slashed_with
   slashed_refuses k = refl
-
-  -- the image is the one that holds its own words
-  pub older : length img ≡ size P E → x.slash_event_epoch.0 < x.delegation.current_epoch
-      → Told (slashed_with x) P E img (accepted (slashed_record x)) img (slash_change P (read P E img) x)
-  unfolding slash_change slashed_with
-  older long h =
-      told_accepted (slashed_with x) P E img (slashed_record x) img nothing _ refl (rw (lt-ltb x.slash_event_epoch.0 x.delegation.current_epoch h))
-      (holds_is P E (read P E img) img (holds_itself P E img long))
-
-  module _ (h : x.delegation.current_epoch ≤ x.slash_event_epoch.0) (o : Outcome (Unit {0})) (l : List ℕ)
-      (t : Told acceptance P E img o l (apply_slash P (read P E img) x.delegation x.locked_slashed.0 x.preunlocking_slashed.0)) where
-    -- the same change with the record for its answer
-    keeps : (c : Outcome Change) → map_outcome (λ y. slashed_record x) (acceptance c) ≡ slashed_with x c
-    unfolding acceptance slashed_with
-    keeps (refused k) = refl
-    keeps (accepted y) = refl
-
-    applies : Told (slashed_with x) P E img (map_outcome (λ y. slashed_record x) o) l (slash_change P (read P E img) x)
-    unfolding slash_change
-    applies =
-        told_as (slashed_with x) P E img _ l _ _ (rw (le-ltb x.slash_event_epoch.0 x.delegation.current_epoch h))
-        (ap (λ (y : Outcome (Unit {0})). map_outcome (λ z. slashed_record x) y) t.0 ∙ keeps _, t.1)
-
-    pub applies_refused : (k : ℕ) → o ≡ refused k → Told (slashed_with x) P E img (refused k) l (slash_change P (read P E img) x)
-    applies_refused k e = rw e at applies
-
-    pub applies_done : o ≡ accepted tt → Told (slashed_with x) P E img (accepted (slashed_record x)) l (slash_change P (read P E img) x)
-    applies_done e = rw e at applies
 
   -- ---- the call: 1, the order, the slash
 

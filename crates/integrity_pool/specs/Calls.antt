@@ -1,16 +1,13 @@
 -- The public calls: answers with refusals in document 01's order, and the image that each leaves. Assumes nothing.
-use Rattle.std.specs.Prelude.{Bool, not, List, ℕ, ltb, eqb, if◌then◌else◌}
+use Rattle.std.specs.Prelude.{not, List, ℕ, ltb, eqb, if◌then◌else◌}
 use Rattle.types.specs.Base.{Outcome, refused, accepted, after}
 use Rattle.types.specs.Refusals.{invalid_image, invalid_epoch, invalid_publisher_caps, invalid_y}
+use Rattle.publisher_caps.specs.declared.PublisherCaps.{PublisherCaps}
 use Rattle.publisher_caps.specs.Message.{message_holds}
 use Rattle.image.specs.Layout.{read, image}
 use Rattle.image.specs.Seats.{sized_image, checked_image, fresh_words}
 use Rattle.advance_plan.specs.declared.Given.{Given}
 use Rattle.advance_plan.specs.Advance.{Advanced, advance_of, forecast_of, advanced_words}
-use Rattle.integrity_pool.specs.declared.Checks.{Checks}
-use Rattle.integrity_pool.specs.declared.Checks.TheVariants as checks
-use Rattle.integrity_pool.specs.declared.FreshAnswer.{FreshAnswer}
-use Rattle.integrity_pool.specs.declared.FreshAnswer.TheVariants.{Done, Refused}
 
 -- ---- fresh (item 9)
 
@@ -24,10 +21,6 @@ fresh_call P E img given =
 unfoldable pub fresh_image : (P E : ℕ) → List ℕ → (given : ℕ) → List ℕ
 fresh_image P E img given = after (fresh_call P E img given) (λ x. image P E (fresh_words given)) img
 
-abbrev pub fresh_is : FreshAnswer → Outcome (Unit {0})
-fresh_is Done = accepted tt
-fresh_is (Refused k) = refused k
-
 -- ---- advance and forecast (items 4 and 5)
 
 -- '1 to 6 first, by number': 1, 2, 3 and 5 here, then the refusals of the pool itself
@@ -39,13 +32,9 @@ checked_then P E img m g rest =
     else if ltb 10_000 g.y then refused invalid_y
     else rest
 
--- none of them is given
-abbrev pub passed : Outcome (Unit {0})
-passed = accepted tt
-
-abbrev pub checks_is : Checks → Outcome (Unit {0})
-checks_is checks.Passed = passed
-checks_is (checks.Refused k) = refused k
+-- the message that was checked
+abbrev pub message_as : PublisherCaps → List ℕ
+message_as caps = caps.message.now
 
 unfoldable pub advance_call : (P E : ℕ) → List ℕ → List ℕ → Given → Outcome Advanced
 advance_call P E img m g = checked_then P E img m g (advance_of P (read P E img) m g)

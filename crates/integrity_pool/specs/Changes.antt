@@ -1,10 +1,9 @@
 -- Item 9 of document 01: the public calls besides fresh, their refusals in document 01's order, and what each changes. Assumes nothing.
-use Rattle.std.specs.Prelude.{Bool, not, ◌&&◌, ◌||◌, List, ℕ, ◌+◌, leb, ltb, eqb, if◌then◌else◌}
+use Rattle.std.specs.Prelude.{Bool, not, ◌&&◌, ◌||◌, List, ℕ, ◌+◌, leb, ltb, eqb, if◌then◌else◌, Option, Some, None}
 use Rattle.types.specs.Base.{M, word, Outcome, refused, accepted, map_outcome, and_then}
 use Rattle.types.specs.Refusals.{invalid_image, invalid_positions, invalid_delegation_fee, does_not_fit, publisher_stake_account_mismatch, outdated_delegator_accounting, wrong_slash_event_order, invalid_slash_event_index, slash_event_ahead_of_now, publisher_or_reward_authority_needs_to_sign, current_stake_account_should_be_undelegated, stake_account_owner_needs_to_sign, account_not_enough_keys, new_stake_account_should_be_undelegated}
+use Rattle.types.specs.declared.Epoch.{Epoch}
 use Rattle.positions.specs.declared.Key.{Key}
-use Rattle.positions.specs.declared.OptionKey.{OptionKey}
-use Rattle.positions.specs.declared.OptionKey.TheVariants.{Some, None}
 use Rattle.positions.specs.declared.position.PositionState.{PositionState}
 use Rattle.positions.specs.Key.{same_key}
 use Rattle.positions.specs.Positions.{positions_hold, has_publisher}
@@ -16,14 +15,8 @@ use Rattle.pool.specs.Changes.{add_delegation, remove_delegation, apply_slash}
 use Rattle.integrity_pool.specs.declared.payment.DelegationRecord.{DelegationRecord}
 -- delegation_record, delegation (publisher, account, current epoch), index, slash_event_epoch, locked_slashed, preunlocking_slashed
 use Rattle.integrity_pool.specs.declared.slash.Slashing.{Slashing}
-use Rattle.integrity_pool.specs.declared.slash.CreateAnswer.{CreateAnswer}
-use Rattle.integrity_pool.specs.declared.slash.CreateAnswer.TheVariants as create
-use Rattle.integrity_pool.specs.declared.slash.SlashAnswer.{SlashAnswer}
-use Rattle.integrity_pool.specs.declared.slash.SlashAnswer.TheVariants as slashed
 -- publisher, signer, reward_program_authority, current_stake_account_positions (the old account), current_owner, new_stake_account_positions
 use Rattle.integrity_pool.specs.declared.stake_account.StakeAccounts.{StakeAccounts}
-use Rattle.integrity_pool.specs.declared.stake_account.NewAccount.{NewAccount}
-use Rattle.integrity_pool.specs.declared.stake_account.NewAccount.TheVariants as new-account
 
 -- '1 to 6 first, by number': 1
 unfoldable pub checked_image_then : {A : Type 0} → (P E : ℕ) → List ℕ → Outcome A → Outcome A
@@ -54,9 +47,8 @@ create_slash_event_call P E img publisher index =
 unfoldable pub created_in : (now : ℕ) → Outcome Change → Outcome ℕ
 created_in now o = map_outcome (λ c. now) o
 
-abbrev pub create_is : CreateAnswer → Outcome ℕ
-create_is (create.Created epoch) = accepted epoch.0
-create_is (create.Refused k) = refused k
+abbrev pub epoch_as : Epoch → ℕ
+epoch_as epoch = epoch.0
 
 -- ---- slash: 1, 19, 22, 20, 13 for the next index, then, only if it applies, 12, 10, 11, 13
 
@@ -89,10 +81,6 @@ slashed_record x = record { last_epoch = x.delegation_record.last_epoch; next_sl
 unfoldable pub slashed_with : Slashing → Outcome Change → Outcome DelegationRecord
 slashed_with x o = map_outcome (λ c. slashed_record x) o
 
-abbrev pub slash_is : SlashAnswer → Outcome DelegationRecord
-slash_is (slashed.Slashed kept) = accepted kept
-slash_is (slashed.Refused k) = refused k
-
 -- ---- fee: 1, 6
 
 unfoldable pub fee_call : (P E : ℕ) → List ℕ → (fee : ℕ) → Outcome Change
@@ -101,7 +89,7 @@ fee_call P E img fee = checked_image_then P E img (if ltb M fee then refused inv
 -- ---- stake account: 1, 4, 10, 11, then 23 or 26, 17, 24, 25, then 27
 
 -- 4; 'a list of an absent account is not looked at'
-unfoldable pub account_holds : OptionKey → List ℕ → Bool
+unfoldable pub account_holds : Option Key → List ℕ → Bool
 account_holds (Some key) words = positions_hold words
 account_holds None words = Bool.true
 
@@ -112,7 +100,7 @@ first_account a =
     else refused publisher_or_reward_authority_needs_to_sign
 
 -- the seat has one: 26 without an old account; 17 if that is another; 24 if it holds a position in this publisher; 25 unless its owner signs
-unfoldable pub later_account : (found : Key) → List ℕ → StakeAccounts → OptionKey → Outcome (Unit {0})
+unfoldable pub later_account : (found : Key) → List ℕ → StakeAccounts → Option Key → Outcome (Unit {0})
 later_account found old a (Some key) =
     if not (same_key key found) then refused publisher_stake_account_mismatch
     else if has_publisher old a.publisher then refused current_stake_account_should_be_undelegated
@@ -124,13 +112,9 @@ unfoldable pub may_change : (found : Key) → List ℕ → StakeAccounts → Out
 may_change found old a = if same_key found zero_key then first_account a else later_account found old a a.current_stake_account_positions
 
 -- 27: the new account holds a position in this publisher; none sets the zero key
-unfoldable pub new_account : List ℕ → (publisher : Key) → OptionKey → Outcome Key
+unfoldable pub new_account : List ℕ → (publisher : Key) → Option Key → Outcome Key
 new_account new publisher (Some key) = if has_publisher new publisher then refused new_stake_account_should_be_undelegated else accepted key
 new_account new publisher None = accepted zero_key
-
-abbrev pub new_account_is : NewAccount → Outcome Key
-new_account_is (new-account.Is key) = accepted key
-new_account_is (new-account.Refused k) = refused k
 
 unfoldable pub stake_account_at_seat : Words → (old new : List ℕ) → StakeAccounts → (s : ℕ) → Outcome Change
 stake_account_at_seat w old new a s =

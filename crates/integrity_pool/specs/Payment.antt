@@ -1,10 +1,8 @@
 -- Item 8 of document 01: a payment, its answer with refusals in document 01's order, and the image that it leaves. Assumes nothing.
-use Rattle.std.specs.Prelude.{not, List, ℕ, ◌+◌, ◌-◌, ltb, eqb, if◌then◌else◌}
+use Rattle.std.specs.Prelude.{not, List, [], ◌∷◌, get_or, ℕ, ◌+◌, ◌-◌, ltb, eqb, if◌then◌else◌, Option, Some, None}
 use Rattle.types.specs.Base.{Outcome, refused, accepted, and_then, after}
 use Rattle.types.specs.Refusals.{invalid_image, invalid_positions, outdated_publisher_accounting, payment_above_claimable, publisher_stake_account_mismatch, publisher_custody_account_required}
 use Rattle.positions.specs.declared.Key.{Key}
-use Rattle.positions.specs.declared.OptionKey.{OptionKey}
-use Rattle.positions.specs.declared.OptionKey.TheVariants.{Some, None}
 use Rattle.positions.specs.Key.{same_key}
 use Rattle.positions.specs.Positions.{positions_hold}
 use Rattle.image.specs.Layout.{last_updated_epoch, claimable_rewards, num_events, head, seat, slot, share, Words, read, image}
@@ -17,20 +15,24 @@ use Rattle.integrity_pool.specs.declared.payment.DelegationRecord.{DelegationRec
 -- delegation_record, publisher, stake_account_positions (the account), publisher_stake_account_positions (the publisher account),
 -- publisher_stake_account_custody (the custody flag), current_epoch, unlocking_duration
 use Rattle.integrity_pool.specs.declared.payment.Claim.{Claim}
-use Rattle.integrity_pool.specs.declared.payment.Fall.{Fall}
-use Rattle.integrity_pool.specs.declared.payment.Fall.TheVariants as fall
-use Rattle.integrity_pool.specs.declared.payment.PaymentAnswer.{PaymentAnswer}
-use Rattle.integrity_pool.specs.declared.payment.PaymentAnswer.TheVariants as payment
+use Rattle.integrity_pool.specs.declared.payment.Payment as answer
 
 -- 'An accepted payment moves the staker's record to the current epoch'; its next slash index stays
 abbrev pub record_at : DelegationRecord → (epoch : ℕ) → DelegationRecord
 record_at r epoch = record { last_epoch = record { 0 = epoch }; next_slash_event_index = r.next_slash_event_index }
 
+-- a staker's record of two words: its last epoch and its next slash event's index
+abbrev pub record_of : List ℕ → DelegationRecord
+record_of words = record { last_epoch = record { 0 = get_or words 0 0 }; next_slash_event_index = get_or words 1 0 }
+
+abbrev pub record_words : DelegationRecord → List ℕ
+record_words r = r.last_epoch.0 ∷ r.next_slash_event_index ∷ []
+
 -- ---- 'The publisher account is a key or none'
 
 -- '17 unless the seat's stake account equals it, none counting as zero; 18 for a key without the custody flag', which is 0. 'Custody falls by both
 -- with a key, by the delegator's alone with none'
-unfoldable pub custody_fall : (stake_account : Key) → OptionKey → (custody delegator both : ℕ) → Outcome ℕ
+unfoldable pub custody_fall : (stake_account : Key) → Option Key → (custody delegator both : ℕ) → Outcome ℕ
 custody_fall stake_account (Some key) custody delegator both =
     if not (same_key stake_account key) then refused publisher_stake_account_mismatch
     else if eqb custody 0 then refused publisher_custody_account_required
@@ -38,10 +40,6 @@ custody_fall stake_account (Some key) custody delegator both =
 custody_fall stake_account None custody delegator both =
     if not (same_key stake_account zero_key) then refused publisher_stake_account_mismatch
     else accepted delegator
-
-abbrev pub fall_is : Fall → Outcome ℕ
-fall_is (fall.By amount) = accepted amount
-fall_is (fall.Refused k) = refused k
 
 -- ---- the payment
 
@@ -81,12 +79,12 @@ unfoldable pub payment_of : (P E : ℕ) → Words → List ℕ → Claim → Out
 payment_of P E w words c = and_then (publisher_index_of P w c.publisher) (payment_at E w words c)
 
 -- the same two from the gathered amounts on, however the positions were handed over
-unfoldable pub gathered_payment_at : (E : ℕ) → Words → EventAmounts → Claim → (s : ℕ) → Outcome Payment
+unfoldable pub gathered_payment_at : (E : ℕ) → Words → Option EventAmounts → Claim → (s : ℕ) → Outcome Payment
 gathered_payment_at E w g c s =
     if not (eqb (w (head last_updated_epoch)) c.current_epoch) then refused outdated_publisher_accounting
     else and_then (reward_of E w s g (self_side w s c.stake_account_positions)) (pay_out (w (head claimable_rewards)) (stake_account_at w s) c)
 
-unfoldable pub gathered_payment : (P E : ℕ) → Words → EventAmounts → Claim → Outcome Payment
+unfoldable pub gathered_payment : (P E : ℕ) → Words → Option EventAmounts → Claim → Outcome Payment
 gathered_payment P E w g c = and_then (publisher_index_of P w c.publisher) (gathered_payment_at E w g c)
 
 -- 'Both parts leave claimable'; no other word changes
@@ -111,13 +109,18 @@ payment_call P E img words c =
     else payment_of P E (read P E img) words c
 
 -- from the gathered amounts on, 1 alone
-unfoldable pub gathered_call : (P E : ℕ) → List ℕ → EventAmounts → Claim → Outcome Payment
+unfoldable pub gathered_call : (P E : ℕ) → List ℕ → Option EventAmounts → Claim → Outcome Payment
 gathered_call P E img g c = if not (checked_image P E img) then refused invalid_image else gathered_payment P E (read P E img) g c
 
 unfoldable pub payment_image : (P E : ℕ) → List ℕ → List ℕ → Claim → List ℕ
 payment_image P E img words c = paid_image P E img (payment_call P E img words c)
 
-abbrev pub payment_is : PaymentAnswer → Outcome Payment
-payment_is (payment.Paid d p fall kept reads) =
-    accepted (record { delegator = d.0; publisher = p.0; custody_fall = fall.0; kept = kept; reads = reads })
-payment_is (payment.Refused k) = refused k
+-- a payment in numbers
+abbrev pub payment_as : answer.Payment → Payment
+payment_as p = record {
+  delegator = p.delegator_reward.0;
+  publisher = p.publisher_reward.0;
+  custody_fall = p.custody_fall.0;
+  kept = p.delegation_record;
+  reads = p.reads;
+}

@@ -2,13 +2,20 @@
 // no word.
 #![tactic(auto)]
 
-ghost use Rattle.std.specs.Prelude.{◌≡◌};
-ghost use Rattle.pool.specs.Answers.{advance_is, forecast_is};
-ghost use Rattle.integrity_pool.specs.Calls.{fresh_is, fresh_call, fresh_image, checked_then, passed, checks_is, advance_call, advance_image, forecast_call};
+ghost use Rattle.std.specs.Prelude.{◌≡◌, ◌<◌, OnOk};
+ghost use Rattle.types.specs.Base.{half, accepted, outcome_of, outcome_by};
+ghost use Rattle.types.specs.declared.Amount.{Amount};
+ghost use Rattle.image.specs.Layout.{num_events, head, read};
+ghost use Rattle.image.specs.Seats.{Sized};
+ghost use Rattle.pool.specs.Answers.{advanced_as, amount_as};
+ghost use Rattle.integrity_pool.specs.Calls.{fresh_call, fresh_image, checked_then, message_as, advance_call, advance_image, forecast_call};
 
 use advance_plan::Given;
-use pool::advance::{AdvanceAnswer, ForecastAnswer};
-use types::refusals::{INVALID_EPOCH, INVALID_IMAGE, INVALID_PUBLISHER_CAPS, INVALID_Y};
+use image::pool_data::{PoolData, PoolDataMut};
+use pool::advance::Advanced;
+use publisher_caps::PublisherCaps;
+use types::Amount;
+use types::refusals::Refusal;
 
 pub mod changes;
 pub mod payment;
@@ -18,76 +25,64 @@ pub mod stake_account;
 // The highest y that initialize_pool and update_y take.
 const MAX_Y: u64 = 10_000;
 
-#[derive(Drop)]
-pub enum FreshAnswer {
-    Done,
-    Refused(u64),
-}
-
 // Item 9's fresh pool: every word zero but the last epoch, one below the given one.
-pub fn fresh(pool: &mut [u64], p: usize, e: usize, epoch: u64) -> FreshAnswer
-    ensures { (fresh_is result ≡ fresh_call p e pool.old epoch) × (pool.new ≡ fresh_image p e pool.old epoch) }
+pub fn fresh(pool: &mut [u64], p: usize, e: usize, epoch: u64) -> Result<(), Refusal>
+    ensures answer { outcome_of result ≡ fresh_call p e pool.old epoch }
+    ensures image { pool.new ≡ fresh_image p e pool.old epoch }
 {
-    let right = image::sized(&pool[..], p, e);
-    if !right {
-        return FreshAnswer::Refused(INVALID_IMAGE);
+    if !image::sized(&pool[..], p, e) {
+        return Err(Refusal::InvalidImage);
     }
     if epoch == 0 {
-        return FreshAnswer::Refused(INVALID_EPOCH);
+        return Err(Refusal::InvalidEpoch);
     }
     image::clear(pool);
-    pool[0] = epoch - 1;
-    FreshAnswer::Done
+    PoolDataMut::new(pool, p, e).set_last_updated_epoch(epoch - 1);
+    Ok(())
 }
 
-// Refusal 1, 2, 3 or 5, or none of them.
-#[derive(Drop)]
-enum Checks {
-    Passed,
-    Refused(u64),
-}
-
-// What an advance and a forecast check before the pool itself is looked at.
-fn check_inputs(pool: &[u64], p: usize, e: usize, m: &[u8], given: Given) -> Checks
-    ensures { checks_is result ≡ checked_then p e pool.now m.now given passed }
+// What an advance and a forecast check before the pool itself is looked at: 1, 2, 3 and 5.
+fn check_inputs<'a>(
+    pool: &[u64],
+    p: usize,
+    e: usize,
+    m: &'a [u8],
+    given: Given,
+) -> Result<PublisherCaps<'a>, Refusal>
+    ensures answer { outcome_by message_as result ≡ checked_then p e pool.now m.now given (accepted m.now) }
+    ensures sized { OnOk result (Sized pool.now p e) }
+    ensures count { OnOk result (read p e pool.now (head num_events) < half) }
 {
-    let right = image::checked(pool, p, e);
-    if !right {
-        return Checks::Refused(INVALID_IMAGE);
+    PoolData::check(pool, p, e)?;
+    if given.epoch_duration == 0 {
+        return Err(Refusal::InvalidEpoch);
     }
-    let seconds = given.epoch_duration;
-    if seconds == 0 {
-        return Checks::Refused(INVALID_EPOCH);
+    let caps = PublisherCaps::check(m)?;
+    if MAX_Y < given.y {
+        return Err(Refusal::InvalidY);
     }
-    let whole = publisher_caps::checked(m);
-    if !whole {
-        return Checks::Refused(INVALID_PUBLISHER_CAPS);
-    }
-    let y = given.y;
-    if MAX_Y < y {
-        return Checks::Refused(INVALID_Y);
-    }
-    Checks::Passed
+    Ok(caps)
 }
 
 // Items 4 and 5: the epochs up to the current one are passed.
-pub fn advance(pool: &mut [u64], p: usize, e: usize, m: &[u8], given: Given) -> AdvanceAnswer
-    ensures { (advance_is result ≡ advance_call p e pool.old m.now given) × (pool.new ≡ advance_image p e pool.old m.now given) }
+pub fn advance(
+    pool: &mut [u64],
+    p: usize,
+    e: usize,
+    m: &[u8],
+    given: Given,
+) -> Result<Advanced, Refusal>
+    ensures answer { outcome_by advanced_as result ≡ advance_call p e pool.old m.now given }
+    ensures image { pool.new ≡ advance_image p e pool.old m.now given }
 {
-    let checks = check_inputs(&pool[..], p, e, m, given);
-    match checks {
-        Checks::Refused(k) => AdvanceAnswer::Refused(k),
-        Checks::Passed => pool::advance::advance(pool, p, e, m, given),
-    }
+    let caps = check_inputs(&pool[..], p, e, m, given)?;
+    pool::advance::advance(&mut PoolDataMut::new(pool, p, e), caps, given)
 }
 
 // What an advance would set aside, every passed epoch taken at the rolled totals.
-pub fn forecast(pool: &[u64], p: usize, e: usize, m: &[u8], given: Given) -> ForecastAnswer
-    ensures { forecast_is result ≡ forecast_call p e pool.now m.now given }
+pub fn forecast(pool: &[u64], p: usize, e: usize, m: &[u8], given: Given) -> Result<Amount, Refusal>
+    ensures { outcome_by amount_as result ≡ forecast_call p e pool.now m.now given }
 {
-    let checks = check_inputs(pool, p, e, m, given);
-    match checks {
-        Checks::Refused(k) => ForecastAnswer::Refused(k),
-        Checks::Passed => pool::advance::forecast(pool, p, e, m, given),
-    }
+    let caps = check_inputs(pool, p, e, m, given)?;
+    pool::advance::forecast(PoolData { words: pool, p, e }, caps, given)
 }

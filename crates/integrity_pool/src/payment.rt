@@ -1,28 +1,44 @@
 // Item 8: a payment, the Rust's advance_delegation_record around calculate_reward.
 ghost use Rattle.std.specs.Prelude.{◌≡◌, ◌+◌, ◌<◌};
-ghost use Rattle.types.specs.Base.{word};
-ghost use Rattle.image.specs.Layout.{read};
-ghost use Rattle.image.specs.Seats.{Sized};
-ghost use Rattle.pool.specs.Reward.{earned_is};
-ghost use Rattle.integrity_pool.specs.Payment.{record_at, fall_is, custody_fall, pay_out, gathered_payment_at, gathered_payment, gathered_call, paid_image, payment_is, payment_call, payment_image};
+ghost use Rattle.types.specs.Base.{word, outcome_of, outcome_by};
+ghost use Rattle.image.specs.Pool.{words_of};
+ghost use Rattle.pool.specs.Reward.{earned_as};
+ghost use Rattle.integrity_pool.specs.Payment.{record_at, record_of, record_words, custody_fall, pay_out, gathered_payment, gathered_call, paid_image, payment_as, payment_call, payment_image};
 
 use event_amounts::gather;
 use event_walk::EventAmounts;
-use image::seats::{PublisherIndex, get_publisher_index, publisher_stake_account};
-use pool::reward::{Calculated, Rewards, calculate_reward};
-use positions::{Key, OptionKey, same_key};
-use types::refusals::{
-    DOES_NOT_FIT, INVALID_IMAGE, INVALID_POSITIONS, INVALID_PUBLISHER,
-    OUTDATED_PUBLISHER_ACCOUNTING, PAYMENT_ABOVE_CLAIMABLE, PUBLISHER_CUSTODY_ACCOUNT_REQUIRED,
-    PUBLISHER_NOT_FOUND, PUBLISHER_STAKE_ACCOUNT_MISMATCH,
-};
+use image::pool_data::{PoolData, PoolDataMut};
+use pool::changes::up_to_date;
+use pool::reward::{Rewards, calculate_reward};
+use positions::Key;
+use positions::list::{checked, nines};
+use types::refusals::Refusal;
 use types::{Amount, Epoch};
 
 // A staker's record with one publisher.
-#[derive(Clone, Copy)]
+#[derive(Clone, Copy, Debug, PartialEq, Eq)]
 pub struct DelegationRecord {
     pub last_epoch: Epoch,
     pub next_slash_event_index: u64,
+}
+
+impl From<[u64; 2]> for DelegationRecord {
+    ghost from_gives = { λ words kept. kept ≡ record_of words };
+
+    fn from(words: [u64; 2]) -> DelegationRecord {
+        DelegationRecord {
+            last_epoch: Epoch(words[0]),
+            next_slash_event_index: words[1],
+        }
+    }
+}
+
+impl From<DelegationRecord> for [u64; 2] {
+    ghost from_gives = { λ kept words. words ≡ record_words kept };
+
+    fn from(record: DelegationRecord) -> [u64; 2] {
+        [record.last_epoch.0, record.next_slash_event_index]
+    }
 }
 
 impl DelegationRecord {
@@ -32,19 +48,19 @@ impl DelegationRecord {
     {
         DelegationRecord {
             last_epoch: current_epoch,
-            next_slash_event_index: self.next_slash_event_index,
+            ..self
         }
     }
 }
 
 // What a payment is given besides the pool and the positions; the accounts by the names of the Rust's AdvanceDelegationRecord.
-#[derive(Clone, Copy)]
+#[derive(Clone, Copy, Debug, PartialEq, Eq)]
 pub struct Claim {
     pub delegation_record: DelegationRecord,
     pub publisher: Key,
     // The stake account whose positions are paid.
     pub stake_account_positions: Key,
-    pub publisher_stake_account_positions: OptionKey,
+    pub publisher_stake_account_positions: Option<Key>,
     // Whether there is an account for the publisher's part: 0 where there is none.
     pub publisher_stake_account_custody: u64,
     pub current_epoch: u64,
@@ -52,181 +68,101 @@ pub struct Claim {
     pub unlocking_duration: u64,
 }
 
-#[derive(Drop)]
-pub enum PaymentAnswer {
-    // The two parts, by how much custody falls, the record to keep, and how many events were read.
-    Paid {
-        delegator_reward: Amount,
-        publisher_reward: Amount,
-        custody_fall: Amount,
-        delegation_record: DelegationRecord,
-        reads: u64,
-    },
-    Refused(u64),
+// The two parts, by how much custody falls, the record to keep, and how many events were read.
+#[derive(Clone, Copy, Debug, PartialEq, Eq)]
+pub struct Payment {
+    pub delegator_reward: Amount,
+    pub publisher_reward: Amount,
+    pub custody_fall: Amount,
+    pub delegation_record: DelegationRecord,
+    pub reads: u64,
 }
 
-// By how much custody falls, or 17 or 18.
-#[derive(Drop)]
-enum Fall {
-    By(u64),
-    Refused(u64),
-}
-
-// What the publisher account decides: with a key custody falls by both parts, with none by the delegator's alone.
+// What the publisher account decides, none counting as zero: with a key custody falls by both parts, with none by the delegator's alone.
+#[tactic(auto, using(positions::proofs::KeyLaws::same_eq, positions::proofs::KeyLaws::differ_eq), unfolding(crate::specs::Payment::custody_fall))]
 fn custody_fall(
     stake_account: Key,
-    account: OptionKey,
+    account: Option<Key>,
     custody: u64,
     delegator: u64,
     both: u64,
-) -> Fall
-    ensures { fall_is result ≡ custody_fall stake_account account custody delegator both }
+) -> Result<u64, Refusal>
+    ensures { outcome_of result ≡ custody_fall stake_account account custody delegator both }
 {
+    if stake_account != account.unwrap_or_default() {
+        return Err(Refusal::PublisherStakeAccountMismatch);
+    }
     match account {
-        OptionKey::None => {
-            let zero = same_key(stake_account, Key(0, 0, 0, 0));
-            if zero {
-                return Fall::By(delegator);
-            }
-            Fall::Refused(PUBLISHER_STAKE_ACCOUNT_MISMATCH)
-        }
-        OptionKey::Some(key) => {
-            let same = same_key(stake_account, key);
-            if !same {
-                return Fall::Refused(PUBLISHER_STAKE_ACCOUNT_MISMATCH);
-            }
-            if custody == 0 {
-                return Fall::Refused(PUBLISHER_CUSTODY_ACCOUNT_REQUIRED);
-            }
-            Fall::By(both)
-        }
+        None => Ok(delegator),
+        Some(_) if custody == 0 => Err(Refusal::PublisherCustodyAccountRequired),
+        Some(_) => Ok(both),
     }
 }
 
 // What is paid of what has been earned.
-fn pay(claimable: u64, stake_account: Key, claim: Claim, earned: Rewards) -> PaymentAnswer
+fn pay(
+    claimable: u64,
+    stake_account: Key,
+    claim: &Claim,
+    earned: Rewards,
+) -> Result<Payment, Refusal>
     requires { earned.delegator_reward.0 + earned.publisher_reward.0 < word }
-    ensures { payment_is result ≡ pay_out claimable stake_account claim (earned_is earned) }
+    ensures { outcome_by payment_as result ≡ pay_out claimable stake_account claim.now (earned_as earned) }
 {
-    let delegator = earned.delegator_reward;
-    let publisher = earned.publisher_reward;
-    let both = delegator.0 + publisher.0;
+    let delegator = earned.delegator_reward.0;
+    let both = delegator + earned.publisher_reward.0;
     if claimable < both {
-        return PaymentAnswer::Refused(PAYMENT_ABOVE_CLAIMABLE);
+        return Err(Refusal::PaymentAboveClaimable);
     }
     let account = claim.publisher_stake_account_positions;
     let custody = claim.publisher_stake_account_custody;
-    let fall = custody_fall(stake_account, account, custody, delegator.0, both);
-    match fall {
-        Fall::Refused(k) => PaymentAnswer::Refused(k),
-        Fall::By(amount) => {
-            let found = claim.delegation_record;
-            PaymentAnswer::Paid {
-                delegator_reward: delegator,
-                publisher_reward: publisher,
-                custody_fall: Amount(amount),
-                delegation_record: found.advance(Epoch(claim.current_epoch)),
-                reads: earned.reads,
-            }
-        }
-    }
-}
-
-// A payment to the stakers of the publisher at seat s, nothing written.
-fn payment_at(
-    pool: &[u64],
-    p: usize,
-    e: usize,
-    s: usize,
-    gathered: EventAmounts,
-    claim: Claim,
-) -> PaymentAnswer
-    requires { Sized pool.now p e × (s < p) }
-    ensures { payment_is result ≡ gathered_payment_at e (read p e pool.now) gathered claim s }
-{
-    let current = claim.current_epoch;
-    if pool[0] != current {
-        return PaymentAnswer::Refused(OUTDATED_PUBLISHER_ACCOUNTING);
-    }
-    let stake_account = publisher_stake_account(pool, p, e, s);
-    let account = claim.stake_account_positions;
-    let is_publisher = same_key(stake_account, account);
-    let calculated = calculate_reward(pool, p, e, s, gathered, is_publisher);
-    match calculated {
-        Calculated::DoesNotFit => PaymentAnswer::Refused(DOES_NOT_FIT),
-        Calculated::Earned(earned) => pay(pool[1], stake_account, claim, earned),
-    }
+    let fall = custody_fall(stake_account, account, custody, delegator, both)?;
+    Ok(Payment {
+        delegator_reward: earned.delegator_reward,
+        publisher_reward: earned.publisher_reward,
+        custody_fall: Amount(fall),
+        delegation_record: claim.delegation_record.advance(Epoch(claim.current_epoch)),
+        reads: earned.reads,
+    })
 }
 
 // A payment on a checked image, nothing written.
 fn payment_of(
-    pool: &[u64],
-    p: usize,
-    e: usize,
-    gathered: EventAmounts,
-    claim: Claim,
-) -> PaymentAnswer
-    requires { Sized pool.now p e }
-    ensures { payment_is result ≡ gathered_payment p e (read p e pool.now) gathered claim }
+    pool: PoolData<'_>,
+    gathered: Option<EventAmounts>,
+    claim: &Claim,
+) -> Result<Payment, Refusal>
+    ensures { outcome_by payment_as result ≡ gathered_payment pool.entry.p pool.entry.e (words_of pool.entry) gathered claim.now }
 {
-    let publisher = claim.publisher;
-    let index = get_publisher_index(pool, p, e, publisher);
-    match index {
-        PublisherIndex::InvalidPublisher => PaymentAnswer::Refused(INVALID_PUBLISHER),
-        PublisherIndex::PublisherNotFound => PaymentAnswer::Refused(PUBLISHER_NOT_FOUND),
-        PublisherIndex::Index(s) => payment_at(pool, p, e, s, gathered, claim),
-    }
+    let s = pool.get_publisher_index(claim.publisher)?;
+    up_to_date(pool, claim.current_epoch)?;
+    let Some(gathered) = gathered else {
+        return Err(Refusal::DoesNotFit);
+    };
+    let is_publisher = pool.is_self_side(s, claim.stake_account_positions);
+    let earned = calculate_reward(pool, s, &gathered, is_publisher)?;
+    let stake_account = pool.publisher_stake_account(s);
+    pay(pool.claimable_rewards(), stake_account, claim, earned)
 }
 
-// What is paid leaves claimable. A refused payment writes nothing.
-fn take_paid(
-    pool: &mut [u64],
-    p: usize,
-    e: usize,
-    gathered: EventAmounts,
-    claim: Claim,
-) -> PaymentAnswer
-    requires { Sized pool.old p e }
-    ensures { (payment_is result ≡ gathered_payment p e (read p e pool.old) gathered claim) × (pool.new ≡ paid_image p e pool.old (gathered_payment p e (read p e pool.old) gathered claim)) }
-{
-    let answer = payment_of(&pool[..], p, e, gathered, claim);
-    match answer {
-        PaymentAnswer::Refused(k) => PaymentAnswer::Refused(k),
-        PaymentAnswer::Paid {
-            delegator_reward,
-            publisher_reward,
-            custody_fall,
-            delegation_record,
-            reads,
-        } => {
-            pool[1] = pool[1] - (delegator_reward.0 + publisher_reward.0);
-            PaymentAnswer::Paid {
-                delegator_reward,
-                publisher_reward,
-                custody_fall,
-                delegation_record,
-                reads,
-            }
-        }
-    }
-}
-
-// The amounts that an account's positions have gathered are paid what they have earned. It is the same whether the positions came as words
-// or as records.
+// The amounts that an account's positions have gathered are paid what they have earned: what is paid leaves claimable. It is the same whether
+// the positions came as words or as records.
 pub fn pay_gathered(
     pool: &mut [u64],
     p: usize,
     e: usize,
-    gathered: EventAmounts,
-    claim: Claim,
-) -> PaymentAnswer
-    ensures { (payment_is result ≡ gathered_call p e pool.old gathered claim) × (pool.new ≡ paid_image p e pool.old (gathered_call p e pool.old gathered claim)) }
+    gathered: Option<EventAmounts>,
+    claim: &Claim,
+) -> Result<Payment, Refusal>
+    ensures answer { outcome_by payment_as result ≡ gathered_call p e pool.old gathered claim.now }
+    ensures image { pool.new ≡ paid_image p e pool.old (gathered_call p e pool.old gathered claim.now) }
 {
-    let right = image::checked(&pool[..], p, e);
-    if !right {
-        return PaymentAnswer::Refused(INVALID_IMAGE);
-    }
-    take_paid(pool, p, e, gathered, claim)
+    let found = PoolData::check(&pool[..], p, e)?;
+    let payment = payment_of(found, gathered, claim)?;
+    let claimable = found.claimable_rewards();
+    let paid = payment.delegator_reward.0 + payment.publisher_reward.0;
+    PoolDataMut::new(pool, p, e).set_claimable_rewards(claimable - paid);
+    Ok(payment)
 }
 
 // The positions of an account are paid what they have earned with one publisher, and the record moves to the current epoch.
@@ -235,29 +171,17 @@ pub fn advance_delegation_record(
     p: usize,
     e: usize,
     words: &[u64],
-    claim: Claim,
-) -> PaymentAnswer
-    ensures { (payment_is result ≡ payment_call p e pool.old words.now claim) × (pool.new ≡ payment_image p e pool.old words.now claim) }
+    claim: &Claim,
+) -> Result<Payment, Refusal>
+    ensures answer { outcome_by payment_as result ≡ payment_call p e pool.old words.now claim.now }
+    ensures image { pool.new ≡ payment_image p e pool.old words.now claim.now }
 {
-    let right = image::checked(&pool[..], p, e);
-    if !right {
-        return PaymentAnswer::Refused(INVALID_IMAGE);
+    let found = PoolData::check(&pool[..], p, e)?;
+    if !checked(words) {
+        return Err(Refusal::InvalidPositions);
     }
-    let whole = positions::list::checked(words);
-    if !whole {
-        return PaymentAnswer::Refused(INVALID_POSITIONS);
-    }
-    let publisher = claim.publisher;
-    let found = claim.delegation_record;
-    let from = found.last_epoch.0;
-    let gathered = gather(
-        &pool[..],
-        p,
-        e,
-        words,
-        publisher,
-        from,
-        claim.unlocking_duration,
-    );
+    let from = claim.delegation_record.last_epoch.0;
+    let unlocking = claim.unlocking_duration;
+    let gathered = gather(found, nines(words), claim.publisher, from, unlocking);
     pay_gathered(pool, p, e, gathered, claim)
 }

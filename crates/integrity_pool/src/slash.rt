@@ -1,27 +1,20 @@
 // Item 9: slash events and slashes.
-ghost use Rattle.std.specs.Prelude.{◌≡◌, ◌+◌, ◌<◌};
-ghost use Rattle.types.specs.Base.{word};
-ghost use Rattle.image.specs.Layout.{read};
-ghost use Rattle.image.specs.Seats.{Sized};
+ghost use Rattle.std.specs.Prelude.{◌≡◌, ◌+◌};
+ghost use Rattle.types.specs.Base.{outcome_of, outcome_by, map_outcome};
+ghost use Rattle.image.specs.Pool.{words_in};
 ghost use Rattle.image.specs.Changes.{changed_image};
-ghost use Rattle.integrity_pool.specs.Calls.{checks_is};
-ghost use Rattle.integrity_pool.specs.Changes.{create_at, create_slash_event_call, created_in, create_is, slash_order, slash_change, slash_call, slashed_with, slash_is};
+ghost use Rattle.pool.specs.Changes.{ChangesAs};
+ghost use Rattle.integrity_pool.specs.Changes.{create_slash_event_call, created_in, epoch_as, wrong_order, slash_order, slash_change, slash_call, slashed_with};
 
-use crate::Checks;
 use crate::payment::DelegationRecord;
-use image::changes::{num_slash_events, set_num_slash_events};
-use image::seats::{PublisherIndex, get_publisher_index};
-use pool::changes::{ChangeAnswer, Delegation, apply_slash};
+use image::pool_data::{PoolData, PoolDataMut};
+use pool::changes::{Delegation, apply_slash};
 use positions::Key;
-use types::refusals::{
-    DOES_NOT_FIT, INVALID_IMAGE, INVALID_PUBLISHER, INVALID_SLASH_EVENT_INDEX,
-    OUTDATED_DELEGATOR_ACCOUNTING, PUBLISHER_NOT_FOUND, SLASH_EVENT_AHEAD_OF_NOW,
-    WRONG_SLASH_EVENT_ORDER,
-};
+use types::refusals::Refusal;
 use types::{Amount, Epoch};
 
 // What a slash is given besides the pool.
-#[derive(Clone, Copy)]
+#[derive(Clone, Copy, Debug, PartialEq, Eq)]
 pub struct Slashing {
     pub delegation_record: DelegationRecord,
     pub delegation: Delegation,
@@ -33,44 +26,7 @@ pub struct Slashing {
     pub preunlocking_slashed: Amount,
 }
 
-#[derive(Drop)]
-pub enum CreateAnswer {
-    // The slash event's epoch.
-    Created(Epoch),
-    Refused(u64),
-}
-
-#[derive(Drop)]
-pub enum SlashAnswer {
-    // The record to keep.
-    Slashed(DelegationRecord),
-    Refused(u64),
-}
-
-// The publisher at seat s gets one slash event more.
-fn create_at(
-    pool: &mut [u64],
-    p: usize,
-    e: usize,
-    s: usize,
-    index: u64,
-    current_epoch: Epoch,
-) -> CreateAnswer
-    requires { Sized pool.old p e × (s < p) }
-    ensures { (create_is result ≡ created_in current_epoch.0 (create_at (read p e pool.old) index s)) × (pool.new ≡ changed_image p e pool.old (create_at (read p e pool.old) index s)) }
-{
-    let count = num_slash_events(&pool[..], p, e, s);
-    if count != index {
-        return CreateAnswer::Refused(INVALID_SLASH_EVENT_INDEX);
-    }
-    if index == u64::MAX {
-        return CreateAnswer::Refused(DOES_NOT_FIT);
-    }
-    set_num_slash_events(pool, p, e, s, index + 1);
-    CreateAnswer::Created(current_epoch)
-}
-
-// The publisher's next slash event, in the current epoch.
+// The publisher's next slash event, in the current epoch, which is the answer.
 pub fn create_slash_event(
     pool: &mut [u64],
     p: usize,
@@ -78,86 +34,81 @@ pub fn create_slash_event(
     publisher: Key,
     index: u64,
     current_epoch: Epoch,
-) -> CreateAnswer
-    ensures { (create_is result ≡ created_in current_epoch.0 (create_slash_event_call p e pool.old publisher index)) × (pool.new ≡ changed_image p e pool.old (create_slash_event_call p e pool.old publisher index)) }
+) -> Result<Epoch, Refusal>
+    ensures answer { outcome_by epoch_as result ≡ created_in current_epoch.0 (create_slash_event_call p e pool.old publisher index) }
+    ensures image { pool.new ≡ changed_image p e pool.old (create_slash_event_call p e pool.old publisher index) }
 {
-    let right = image::checked(&pool[..], p, e);
-    if !right {
-        return CreateAnswer::Refused(INVALID_IMAGE);
+    let found = PoolData::check(&pool[..], p, e)?;
+    let s = found.get_publisher_index(publisher)?;
+    if found.num_slash_events(s) != index {
+        return Err(Refusal::InvalidSlashEventIndex);
     }
-    let found = get_publisher_index(&pool[..], p, e, publisher);
-    match found {
-        PublisherIndex::InvalidPublisher => CreateAnswer::Refused(INVALID_PUBLISHER),
-        PublisherIndex::PublisherNotFound => CreateAnswer::Refused(PUBLISHER_NOT_FOUND),
-        PublisherIndex::Index(s) => create_at(pool, p, e, s, index, current_epoch),
-    }
+    let Some(count) = index.checked_add(1) else {
+        return Err(Refusal::DoesNotFit);
+    };
+    PoolDataMut::new(pool, p, e).set_num_slash_events(s, count);
+    Ok(current_epoch)
 }
 
-// Refusal 19, 22, 20, or 13 for the next index, or none of them.
-fn slash_order(slashing: Slashing) -> Checks
-    ensures { checks_is result ≡ slash_order slashing }
+// 20 is an index below the next one or, in the current epoch, unequal to it.
+#[tactic(auto, unfolding(crate::specs::Changes::wrong_order))]
+fn wrong_order(index: u64, next: u64, event: u64, current: u64) -> bool
+    ensures { result ≡ wrong_order index next event current }
 {
-    let found = slashing.delegation_record;
-    let delegation = slashing.delegation;
+    index < next || event == current && index != next
+}
+
+// Refusal 19, 22, 20, or 13 for the next index, or that index.
+#[tactic(auto, unfolding(crate::specs::Changes::slash_order))]
+fn slash_order(slashing: &Slashing) -> Result<u64, Refusal>
+    ensures { outcome_of result ≡ map_outcome (λ passed. slashing.now.index + 1) (slash_order slashing.now) }
+{
     let index = slashing.index;
     let event = slashing.slash_event_epoch.0;
-    let current = delegation.current_epoch;
-    let next = found.next_slash_event_index;
-    if found.last_epoch.0 != current {
-        return Checks::Refused(OUTDATED_DELEGATOR_ACCOUNTING);
+    let current = slashing.delegation.current_epoch;
+    let next = slashing.delegation_record.next_slash_event_index;
+    if slashing.delegation_record.last_epoch.0 != current {
+        return Err(Refusal::OutdatedDelegatorAccounting);
     }
     if current < event {
-        return Checks::Refused(SLASH_EVENT_AHEAD_OF_NOW);
+        return Err(Refusal::SlashEventAheadOfNow);
     }
-    if index < next {
-        return Checks::Refused(WRONG_SLASH_EVENT_ORDER);
+    if wrong_order(index, next, event, current) {
+        return Err(Refusal::WrongSlashEventOrder);
     }
-    if event == current {
-        if index != next {
-            return Checks::Refused(WRONG_SLASH_EVENT_ORDER);
-        }
-    }
-    if index == u64::MAX {
-        return Checks::Refused(DOES_NOT_FIT);
-    }
-    Checks::Passed
+    let Some(next) = index.checked_add(1) else {
+        return Err(Refusal::DoesNotFit);
+    };
+    Ok(next)
 }
 
-// A slash in its turn: one older than the current epoch changes the record alone.
-fn slash_in_turn(pool: &mut [u64], p: usize, e: usize, slashing: Slashing) -> SlashAnswer
-    requires { Sized pool.old p e × (slashing.index + 1 < word) }
-    ensures { (slash_is result ≡ slashed_with slashing (slash_change p (read p e pool.old) slashing)) × (pool.new ≡ changed_image p e pool.old (slash_change p (read p e pool.old) slashing)) }
+// A slash in its turn changes the pool where it is of the current epoch: one older changes the record alone.
+fn slash_in_turn(pool: &mut PoolDataMut<'_>, slashing: &Slashing) -> Result<(), Refusal>
+    ensures { ChangesAs pool.old pool.new (slash_change pool.old.p (words_in pool.old) slashing.now) result }
 {
-    let found = slashing.delegation_record;
-    let delegation = slashing.delegation;
-    let last_epoch = found.last_epoch;
-    let kept = DelegationRecord {
-        last_epoch,
-        next_slash_event_index: slashing.index + 1,
-    };
-    if slashing.slash_event_epoch.0 < delegation.current_epoch {
-        return SlashAnswer::Slashed(kept);
+    if slashing.slash_event_epoch.0 < slashing.delegation.current_epoch {
+        return Ok(());
     }
     let locked = slashing.locked_slashed;
     let preunlocking = slashing.preunlocking_slashed;
-    let applied = apply_slash(pool, p, e, delegation, locked, preunlocking);
-    match applied {
-        ChangeAnswer::Refused(k) => SlashAnswer::Refused(k),
-        ChangeAnswer::Done => SlashAnswer::Slashed(kept),
-    }
+    apply_slash(pool, &slashing.delegation, locked, preunlocking)
 }
 
-// What a slash event took from an account leaves the publisher's totals, and the record moves past the event.
-pub fn slash(pool: &mut [u64], p: usize, e: usize, slashing: Slashing) -> SlashAnswer
-    ensures { (slash_is result ≡ slashed_with slashing (slash_call p e pool.old slashing)) × (pool.new ≡ changed_image p e pool.old (slash_call p e pool.old slashing)) }
+// What a slash event took from an account leaves the publisher's totals, and the record moves past the event: the answer is the record to keep.
+pub fn slash(
+    pool: &mut [u64],
+    p: usize,
+    e: usize,
+    slashing: &Slashing,
+) -> Result<DelegationRecord, Refusal>
+    ensures answer { outcome_of result ≡ slashed_with slashing.now (slash_call p e pool.old slashing.now) }
+    ensures image { pool.new ≡ changed_image p e pool.old (slash_call p e pool.old slashing.now) }
 {
-    let right = image::checked(&pool[..], p, e);
-    if !right {
-        return SlashAnswer::Refused(INVALID_IMAGE);
-    }
-    let order = slash_order(slashing);
-    match order {
-        Checks::Refused(k) => SlashAnswer::Refused(k),
-        Checks::Passed => slash_in_turn(pool, p, e, slashing),
-    }
+    PoolData::check(&pool[..], p, e)?;
+    let next_slash_event_index = slash_order(slashing)?;
+    slash_in_turn(&mut PoolDataMut::new(pool, p, e), slashing)?;
+    Ok(DelegationRecord {
+        next_slash_event_index,
+        ..slashing.delegation_record
+    })
 }

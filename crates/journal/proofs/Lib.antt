@@ -1,5 +1,4 @@
-pub mod BytesLaws
 pub mod CallsLaws
 pub mod FieldsLaws
-pub mod NumberLaws
 pub mod Fixed
+pub mod NumberLaws

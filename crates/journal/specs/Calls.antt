@@ -1,102 +1,158 @@
--- The calls by number: their names, and the kinds of their fields. Assumes nothing.
-use Rattle.std.specs.Prelude.{ℕ, Bool, true, cond, List, [], ◌∷◌, ◌==◌, slice_index_or}
-use Rattle.text.specs.Items.{place_of}
+-- The calls: their names, and their fields. Assumes nothing.
+use Rattle.std.specs.Prelude.{ℕ, Bool, true, false, List, [], ◌∷◌, Option, None, Some, codes, map, slice_get}
+use Rattle.std.specs.Borrow.{Bor}
+use Rattle.std.specs.List.{find}
+use Rattle.std.specs.Str.{bytes_eq}
+use Rattle.journal.specs.declared.calls.Kind.{Kind}
+use Rattle.journal.specs.declared.calls.Kind.TheVariants as kind
+use Rattle.journal.specs.declared.calls.Call.{Call}
+use Rattle.journal.specs.declared.calls.Call.TheVariants.{New, Settings, Image, Nonzero, Load, Save, Fresh, Advance, Forecast, Payment, Add, Remove, CreateSlashEvent, Slash, Fee, StakeAccount, Show, State, Help, Quit}
 
--- the names in ASCII, call 1 first
-abbrev pub names : List (List ℕ)
-names =
-    (110 ∷ 101 ∷ 119 ∷ [])  -- new
-    ∷ (115 ∷ 101 ∷ 116 ∷ 116 ∷ 105 ∷ 110 ∷ 103 ∷ 115 ∷ [])  -- settings
-    ∷ (105 ∷ 109 ∷ 97 ∷ 103 ∷ 101 ∷ [])  -- image
-    ∷ (110 ∷ 111 ∷ 110 ∷ 122 ∷ 101 ∷ 114 ∷ 111 ∷ [])  -- nonzero
-    ∷ (108 ∷ 111 ∷ 97 ∷ 100 ∷ [])  -- load
-    ∷ (115 ∷ 97 ∷ 118 ∷ 101 ∷ [])  -- save
-    ∷ (102 ∷ 114 ∷ 101 ∷ 115 ∷ 104 ∷ [])  -- fresh
-    ∷ (97 ∷ 100 ∷ 118 ∷ 97 ∷ 110 ∷ 99 ∷ 101 ∷ [])  -- advance
-    ∷ (102 ∷ 111 ∷ 114 ∷ 101 ∷ 99 ∷ 97 ∷ 115 ∷ 116 ∷ [])  -- forecast
-    ∷ (112 ∷ 97 ∷ 121 ∷ 109 ∷ 101 ∷ 110 ∷ 116 ∷ [])  -- payment
-    ∷ (97 ∷ 100 ∷ 100 ∷ [])  -- add
-    ∷ (114 ∷ 101 ∷ 109 ∷ 111 ∷ 118 ∷ 101 ∷ [])  -- remove
-    ∷ (99 ∷ 114 ∷ 101 ∷ 97 ∷ 116 ∷ 101 ∷ 45 ∷ 115 ∷ 108 ∷ 97 ∷ 115 ∷ 104 ∷ 45 ∷ 101 ∷ 118 ∷ 101 ∷ 110 ∷ 116 ∷ [])  -- create-slash-event
-    ∷ (115 ∷ 108 ∷ 97 ∷ 115 ∷ 104 ∷ [])  -- slash
-    ∷ (102 ∷ 101 ∷ 101 ∷ [])  -- fee
-    ∷ (115 ∷ 116 ∷ 97 ∷ 107 ∷ 101 ∷ 45 ∷ 97 ∷ 99 ∷ 99 ∷ 111 ∷ 117 ∷ 110 ∷ 116 ∷ [])  -- stake-account
-    ∷ (115 ∷ 104 ∷ 111 ∷ 119 ∷ [])  -- show
-    ∷ (115 ∷ 116 ∷ 97 ∷ 116 ∷ 101 ∷ [])  -- state
-    ∷ (104 ∷ 101 ∷ 108 ∷ 112 ∷ [])  -- help
-    ∷ (113 ∷ 117 ∷ 105 ∷ 116 ∷ [])  -- quit
+abbrev pub calls : List Call
+calls =
+    New
+    ∷ Settings
+    ∷ Image
+    ∷ Nonzero
+    ∷ Load
+    ∷ Save
+    ∷ Fresh
+    ∷ Advance
+    ∷ Forecast
+    ∷ Payment
+    ∷ Add
+    ∷ Remove
+    ∷ CreateSlashEvent
+    ∷ Slash
+    ∷ Fee
+    ∷ StakeAccount
+    ∷ Show
+    ∷ State
+    ∷ Help
+    ∷ Quit
     ∷ []
 
--- how many calls there are, the one that is none counted too
-abbrev pub call_count : ℕ
-call_count = 21
+abbrev pub call_name : Call → List ℕ
+call_name New = codes "new"
+call_name Settings = codes "settings"
+call_name Image = codes "image"
+call_name Nonzero = codes "nonzero"
+call_name Load = codes "load"
+call_name Save = codes "save"
+call_name Fresh = codes "fresh"
+call_name Advance = codes "advance"
+call_name Forecast = codes "forecast"
+call_name Payment = codes "payment"
+call_name Add = codes "add"
+call_name Remove = codes "remove"
+call_name CreateSlashEvent = codes "create-slash-event"
+call_name Slash = codes "slash"
+call_name Fee = codes "fee"
+call_name StakeAccount = codes "stake-account"
+call_name Show = codes "show"
+call_name State = codes "state"
+call_name Help = codes "help"
+call_name Quit = codes "quit"
 
--- the call of a name; 0 for a name that is not there
-abbrev pub call_of : List ℕ → ℕ
-call_of name = place_of name names 1
+-- the call of a name
+abbrev pub call_of : List ℕ → Option Call
+call_of name = find (λ call. bytes_eq (call_name call) name) calls
 
--- kinds of fields, each a letter: `n` a number, `k` a key, `o` a key or none, `s` a position's state, `m` a message, `p` a path, `l` a list of
--- positions, `w` the words of an image, `c` a call, `.` no field
-abbrev pub n : ℕ
-n = 110
+-- fields by name and kind
+abbrev pub number : List ℕ → List ℕ × Kind
+number name = (name, kind.Number)
 
-abbrev pub k : ℕ
-k = 107
+abbrev pub key : List ℕ → List ℕ × Kind
+key name = (name, kind.Key)
 
-abbrev pub o : ℕ
-o = 111
+abbrev pub key_or_none : List ℕ → List ℕ × Kind
+key_or_none name = (name, kind.KeyOrNone)
 
-abbrev pub s : ℕ
-s = 115
+abbrev pub positions : List ℕ → List ℕ × Kind
+positions name = (name, kind.Positions)
 
-abbrev pub m : ℕ
-m = 109
+-- NOW PUBLISHER ACCOUNT, which the calls on an account's stake begin with
+abbrev pub delegation : List (List ℕ × Kind) → List (List ℕ × Kind)
+delegation rest = number (codes "NOW") ∷ key (codes "PUBLISHER") ∷ key (codes "ACCOUNT") ∷ rest
 
-abbrev pub p : ℕ
-p = 112
-
-abbrev pub l : ℕ
-l = 108
-
-abbrev pub w : ℕ
-w = 119
-
-abbrev pub c : ℕ
-c = 99
-
-abbrev pub none : ℕ
-none = 46
-
--- the fields of each call, call 0 being none
-abbrev pub fields : List (List ℕ)
-fields =
-    []
-    ∷ (n ∷ n ∷ [])  -- new P E
-    ∷ (n ∷ n ∷ [])  -- settings SECONDS UNLOCKING
-    ∷ (w ∷ [])  -- image WORDS
-    ∷ []  -- nonzero
-    ∷ (p ∷ [])  -- load PATH
-    ∷ (p ∷ [])  -- save PATH
-    ∷ (n ∷ [])  -- fresh EPOCH
-    ∷ (n ∷ n ∷ n ∷ n ∷ m ∷ [])  -- advance NOW Y CUSTODY VERIFIED CAPS
-    ∷ (n ∷ n ∷ n ∷ n ∷ m ∷ [])  -- forecast NOW Y CUSTODY VERIFIED CAPS
-    ∷ (n ∷ k ∷ k ∷ n ∷ n ∷ o ∷ n ∷ l ∷ [])  -- payment NOW PUBLISHER ACCOUNT RECORD_EPOCH NEXT_INDEX PUBLISHER_ACCOUNT CUSTODY_FLAG POSITIONS
-    ∷ (n ∷ k ∷ k ∷ n ∷ [])  -- add NOW PUBLISHER ACCOUNT AMOUNT
-    ∷ (n ∷ k ∷ k ∷ n ∷ s ∷ [])  -- remove NOW PUBLISHER ACCOUNT AMOUNT STATE
-    ∷ (n ∷ k ∷ n ∷ [])  -- create-slash-event NOW PUBLISHER INDEX
-    ∷ (n ∷ k ∷ k ∷ n ∷ n ∷ n ∷ n ∷ n ∷ n ∷ [])  -- slash NOW PUBLISHER ACCOUNT RECORD_EPOCH NEXT_INDEX INDEX EVENT_EPOCH LOCKED PREUNLOCKING
-    ∷ (n ∷ [])  -- fee FEE
-    ∷ (k ∷ k ∷ k ∷ o ∷ o ∷ l ∷ o ∷ l ∷ [])  -- stake-account PUBLISHER SIGNER AUTHORITY OLD OLD_OWNER OLD_POSITIONS NEW NEW_POSITIONS
-    ∷ []  -- show
-    ∷ (n ∷ l ∷ [])  -- state EPOCH POSITION
-    ∷ (c ∷ [])  -- help CALL
-    ∷ []  -- quit
+-- NOW Y CUSTODY VERIFIED CAPS
+abbrev pub epoch_fields : List (List ℕ × Kind)
+epoch_fields =
+    number (codes "NOW")
+    ∷ number (codes "Y")
+    ∷ number (codes "CUSTODY")
+    ∷ number (codes "VERIFIED")
+    ∷ (codes "CAPS", kind.Message)
     ∷ []
 
--- the kind of field i of a call
-unfoldable pub kind_of : (call i : ℕ) → ℕ
-kind_of call i = slice_index_or (slice_index_or fields call []) i none
+-- the fields of each call in order
+abbrev pub fields_of : Call → List (List ℕ × Kind)
+fields_of New = number (codes "P") ∷ number (codes "E") ∷ []
+fields_of Settings = number (codes "SECONDS") ∷ number (codes "UNLOCKING") ∷ []
+fields_of Image = (codes "WORDS", kind.Words) ∷ []
+fields_of Nonzero = []
+fields_of Load = (codes "PATH", kind.Path) ∷ []
+fields_of Save = (codes "PATH", kind.Path) ∷ []
+fields_of Fresh = number (codes "EPOCH") ∷ []
+fields_of Advance = epoch_fields
+fields_of Forecast = epoch_fields
+fields_of Payment =
+    delegation
+    (number (codes "RECORD_EPOCH")
+    ∷ number (codes "NEXT_INDEX")
+    ∷ key_or_none (codes "PUBLISHER_ACCOUNT")
+    ∷ number (codes "CUSTODY_FLAG")
+    ∷ positions (codes "POSITIONS")
+    ∷ [])
+fields_of Add = delegation (number (codes "AMOUNT") ∷ [])
+fields_of Remove = delegation (number (codes "AMOUNT") ∷ (codes "STATE", kind.State) ∷ [])
+fields_of CreateSlashEvent = number (codes "NOW") ∷ key (codes "PUBLISHER") ∷ number (codes "INDEX") ∷ []
+fields_of Slash =
+    delegation
+    (number (codes "RECORD_EPOCH")
+    ∷ number (codes "NEXT_INDEX")
+    ∷ number (codes "INDEX")
+    ∷ number (codes "EVENT_EPOCH")
+    ∷ number (codes "LOCKED")
+    ∷ number (codes "PREUNLOCKING")
+    ∷ [])
+fields_of Fee = number (codes "FEE") ∷ []
+fields_of StakeAccount =
+    key (codes "PUBLISHER")
+    ∷ key (codes "SIGNER")
+    ∷ key (codes "AUTHORITY")
+    ∷ key_or_none (codes "OLD")
+    ∷ key_or_none (codes "OLD_OWNER")
+    ∷ positions (codes "OLD_POSITIONS")
+    ∷ key_or_none (codes "NEW")
+    ∷ positions (codes "NEW_POSITIONS")
+    ∷ []
+fields_of Show = []
+fields_of State = number (codes "EPOCH") ∷ positions (codes "POSITION") ∷ []
+fields_of Help = (codes "CALL", kind.Call) ∷ []
+fields_of Quit = []
 
--- whether a call with i fields is whole: none is left, or only the call that `help` may have, or the words that `image` may
-unfoldable pub whole_of : (call i : ℕ) → Bool
-whole_of call i = cond (kind_of call i == none) true (cond (kind_of call i == c) true (kind_of call i == w))
+-- a list of fields as it is read
+abbrev pub fields_as : List (Bor (List ℕ) × Kind) → List (List ℕ × Kind)
+fields_as fields = map (λ field. (field.0.now, field.1)) fields
+
+-- the kind of field k of a call, if there is one
+abbrev pub kind_of : Call → (k : ℕ) → Option Kind
+kind_of call k = slice_get (map (λ field. field.1) (fields_of call)) k
+
+-- whether a field may be missing: none is left, or only the call that `help` may have, or the words that `image` may
+abbrev pub may_miss : Option Kind → Bool
+may_miss None = true
+may_miss (Some kind.Number) = false
+may_miss (Some kind.Key) = false
+may_miss (Some kind.KeyOrNone) = false
+may_miss (Some kind.State) = false
+may_miss (Some kind.Message) = false
+may_miss (Some kind.Path) = false
+may_miss (Some kind.Positions) = false
+may_miss (Some kind.Words) = true
+may_miss (Some kind.Call) = true
+
+-- whether a call with its first k fields is whole
+abbrev pub whole_of : Call → (k : ℕ) → Bool
+whole_of call k = may_miss (kind_of call k)

@@ -1,4 +1,6 @@
-pub mod Held
 pub mod Bytes
 pub mod Calls
+pub mod Faults
 pub mod Fields
+pub mod States
+pub mod Values

@@ -1,126 +1,209 @@
-// The calls by number, their names, and the kinds of their fields.
-ghost use Rattle.std.specs.Prelude.{◌≡◌, ◌<◌};
-ghost use Rattle.journal.specs.Calls.{call_count, call_of, kind_of, whole_of};
+// The calls: their names, their fields, and what they answer.
+ghost use Rattle.std.specs.Prelude.{◌≡◌, ◌≤◌, length};
+ghost use Rattle.journal.specs.Calls.{call_name, call_of, fields_as, fields_of, kind_of, whole_of};
 
-pub const NEW: usize = 1;
+use crate::names::{Named, with_name};
 
-pub const SETTINGS: usize = 2;
-
-pub const IMAGE: usize = 3;
-
-pub const NONZERO: usize = 4;
-
-pub const LOAD: usize = 5;
-
-pub const SAVE: usize = 6;
-
-pub const FRESH: usize = 7;
-
-pub const ADVANCE: usize = 8;
-
-pub const FORECAST: usize = 9;
-
-pub const PAYMENT: usize = 10;
-
-pub const ADD: usize = 11;
-
-pub const REMOVE: usize = 12;
-
-pub const CREATE_SLASH_EVENT: usize = 13;
-
-pub const SLASH: usize = 14;
-
-pub const FEE: usize = 15;
-
-pub const STAKE_ACCOUNT: usize = 16;
-
-pub const SHOW: usize = 17;
-
-pub const POSITION_STATE: usize = 18;
-
-pub const HELP: usize = 19;
-
-pub const QUIT: usize = 20;
-
-// How many calls there are, the one that is none counted too.
-pub const COUNT: usize = 21;
-
-// Kinds of fields.
-pub const NUMBER: u8 = b'n';
-
-pub const KEY: u8 = b'k';
-
-pub const KEY_OR_NONE: u8 = b'o';
-
-pub const STATE: u8 = b's';
-
-pub const MESSAGE: u8 = b'm';
-
-pub const PATH: u8 = b'p';
-
-pub const POSITIONS: u8 = b'l';
-
-pub const WORDS: u8 = b'w';
-
-pub const CALL: u8 = b'c';
-
-pub const NONE: u8 = b'.';
-
-// A row of kinds for each call, from row 1 on. A call has at most nine fields, so that every row ends with none.
-const KINDS: [u8; 210] = *b"\
-    ..........\
-    nn........\
-    nn........\
-    w.........\
-    ..........\
-    p.........\
-    p.........\
-    n.........\
-    nnnnm.....\
-    nnnnm.....\
-    nkknnonl..\
-    nkkn......\
-    nkkns.....\
-    nkn.......\
-    nkknnnnnn.\
-    n.........\
-    kkkoolol..\
-    ..........\
-    nl........\
-    c.........\
-    ..........";
-
-// The call of a name, 0 where there is none.
-pub fn call_of(s: &[u8]) -> usize
-    ensures { (result ≡ call_of s.now) × (result < call_count) }
-{
-    text::items::place(
-        s,
-        b"new settings image nonzero load save fresh advance forecast payment \
-          add remove create-slash-event slash fee stake-account show state \
-          help quit",
-    )
+// A field's kind.
+#[derive(Clone, Copy, Debug, PartialEq, Eq)]
+pub enum Kind {
+    Number,
+    Key,
+    KeyOrNone,
+    State,
+    Message,
+    Path,
+    Positions,
+    Words,
+    Call,
 }
 
-// The kind of field k of a call.
-pub fn kind(call: usize, k: usize) -> u8
-    requires { (call < call_count) × (k < 10) }
-    ensures { result ≡ kind_of call k }
-{
-    KINDS[call * 10 + k]
+#[derive(Clone, Copy, Debug, PartialEq, Eq)]
+pub enum Call {
+    New,
+    Settings,
+    Image,
+    Nonzero,
+    Load,
+    Save,
+    Fresh,
+    Advance,
+    Forecast,
+    Payment,
+    Add,
+    Remove,
+    CreateSlashEvent,
+    Slash,
+    Fee,
+    StakeAccount,
+    Show,
+    State,
+    Help,
+    Quit,
 }
 
-// Whether a call with k fields is whole.
-pub fn whole(call: usize, k: usize) -> bool
-    requires { (call < call_count) × (k < 10) }
-    ensures { result ≡ whole_of call k }
+// The calls in the order of `help`.
+pub const CALLS: [Call; 20] = [
+    Call::New,
+    Call::Settings,
+    Call::Image,
+    Call::Nonzero,
+    Call::Load,
+    Call::Save,
+    Call::Fresh,
+    Call::Advance,
+    Call::Forecast,
+    Call::Payment,
+    Call::Add,
+    Call::Remove,
+    Call::CreateSlashEvent,
+    Call::Slash,
+    Call::Fee,
+    Call::StakeAccount,
+    Call::Show,
+    Call::State,
+    Call::Help,
+    Call::Quit,
+];
+
+// A call has at most so many fields.
+pub const MOST_FIELDS: usize = 9;
+
+impl Named for Call {
+    ghost name_of = { call_name };
+
+    fn name(self) -> &'static str {
+        match self {
+            Call::New => "new",
+            Call::Settings => "settings",
+            Call::Image => "image",
+            Call::Nonzero => "nonzero",
+            Call::Load => "load",
+            Call::Save => "save",
+            Call::Fresh => "fresh",
+            Call::Advance => "advance",
+            Call::Forecast => "forecast",
+            Call::Payment => "payment",
+            Call::Add => "add",
+            Call::Remove => "remove",
+            Call::CreateSlashEvent => "create-slash-event",
+            Call::Slash => "slash",
+            Call::Fee => "fee",
+            Call::StakeAccount => "stake-account",
+            Call::Show => "show",
+            Call::State => "state",
+            Call::Help => "help",
+            Call::Quit => "quit",
+        }
+    }
+}
+
+// The call of a name.
+pub fn call_of(name: &[u8]) -> Option<Call>
+    ensures { result ≡ call_of name.now }
 {
-    let next = kind(call, k);
-    if next == NONE {
-        return true;
+    with_name(&CALLS, name)
+}
+
+impl Call {
+    // The fields in order, each with its name.
+    pub fn fields(self) -> &'static [(&'static str, Kind)]
+        ensures fields { fields_as result.now ≡ fields_of self }
+        ensures few { length result.now ≤ MOST_FIELDS }
+    {
+        match self {
+            Call::New => &[("P", Kind::Number), ("E", Kind::Number)],
+            Call::Settings => &[("SECONDS", Kind::Number), ("UNLOCKING", Kind::Number)],
+            Call::Image => &[("WORDS", Kind::Words)],
+            Call::Nonzero => &[],
+            Call::Load => &[("PATH", Kind::Path)],
+            Call::Save => &[("PATH", Kind::Path)],
+            Call::Fresh => &[("EPOCH", Kind::Number)],
+            Call::Advance => &[
+                ("NOW", Kind::Number),
+                ("Y", Kind::Number),
+                ("CUSTODY", Kind::Number),
+                ("VERIFIED", Kind::Number),
+                ("CAPS", Kind::Message),
+            ],
+            Call::Forecast => &[
+                ("NOW", Kind::Number),
+                ("Y", Kind::Number),
+                ("CUSTODY", Kind::Number),
+                ("VERIFIED", Kind::Number),
+                ("CAPS", Kind::Message),
+            ],
+            Call::Payment => &[
+                ("NOW", Kind::Number),
+                ("PUBLISHER", Kind::Key),
+                ("ACCOUNT", Kind::Key),
+                ("RECORD_EPOCH", Kind::Number),
+                ("NEXT_INDEX", Kind::Number),
+                ("PUBLISHER_ACCOUNT", Kind::KeyOrNone),
+                ("CUSTODY_FLAG", Kind::Number),
+                ("POSITIONS", Kind::Positions),
+            ],
+            Call::Add => &[
+                ("NOW", Kind::Number),
+                ("PUBLISHER", Kind::Key),
+                ("ACCOUNT", Kind::Key),
+                ("AMOUNT", Kind::Number),
+            ],
+            Call::Remove => &[
+                ("NOW", Kind::Number),
+                ("PUBLISHER", Kind::Key),
+                ("ACCOUNT", Kind::Key),
+                ("AMOUNT", Kind::Number),
+                ("STATE", Kind::State),
+            ],
+            Call::CreateSlashEvent => &[
+                ("NOW", Kind::Number),
+                ("PUBLISHER", Kind::Key),
+                ("INDEX", Kind::Number),
+            ],
+            Call::Slash => &[
+                ("NOW", Kind::Number),
+                ("PUBLISHER", Kind::Key),
+                ("ACCOUNT", Kind::Key),
+                ("RECORD_EPOCH", Kind::Number),
+                ("NEXT_INDEX", Kind::Number),
+                ("INDEX", Kind::Number),
+                ("EVENT_EPOCH", Kind::Number),
+                ("LOCKED", Kind::Number),
+                ("PREUNLOCKING", Kind::Number),
+            ],
+            Call::Fee => &[("FEE", Kind::Number)],
+            Call::StakeAccount => &[
+                ("PUBLISHER", Kind::Key),
+                ("SIGNER", Kind::Key),
+                ("AUTHORITY", Kind::Key),
+                ("OLD", Kind::KeyOrNone),
+                ("OLD_OWNER", Kind::KeyOrNone),
+                ("OLD_POSITIONS", Kind::Positions),
+                ("NEW", Kind::KeyOrNone),
+                ("NEW_POSITIONS", Kind::Positions),
+            ],
+            Call::Show => &[],
+            Call::State => &[("EPOCH", Kind::Number), ("POSITION", Kind::Positions)],
+            Call::Help => &[("CALL", Kind::Call)],
+            Call::Quit => &[],
+        }
     }
-    if next == CALL {
-        return true;
+
+    // The kind of field k, if there is one.
+    pub fn kind(self, k: usize) -> Option<Kind>
+        ensures { result ≡ kind_of self k }
+    {
+        match self.fields().get(k) {
+            Some((_, kind)) => Some(*kind),
+            None => None,
+        }
     }
-    next == WORDS
+
+    // Whether the call with its first k fields is whole.
+    pub fn is_whole(self, k: usize) -> bool
+        ensures { result ≡ whole_of self k }
+    {
+        matches!(self.kind(k), None | Some(Kind::Call | Kind::Words))
+    }
 }

@@ -1,311 +1,232 @@
 // Standard input, an item at a time. The buffer has to hold one item, not one line.
-ghost use Rattle.std.specs.Prelude.{◌≡◌, ◌<◌, ◌≤◌, length};
-ghost use Rattle.journal.specs.Held.{Unread, Found};
-ghost use Rattle.journal.specs.Bytes.{has, is_over, ends_at, counted_of};
+ghost use Rattle.std.specs.Prelude.{◌≡◌, ◌+◌, ◌-◌, ◌<◌, ◌≤◌, min, length, replicate, slice_range, take, IfOk};
+ghost use Rattle.journal.specs.Bytes.{has, at_hand, AtHand, StopsAt, is_over, ends_at, counted_of};
+ghost use Rattle.journal.specs.declared.input.TheConstants.{ROOM};
 
+use crate::fault::Fault;
 use std::io::{Read, Stdin};
 
-// What stands where no byte does; each is above every byte.
-pub const END: usize = 256;
+// The buffer's bytes, more than the digits of a message that is kept.
+pub const ROOM: usize = 131072;
 
-pub const FAILED: usize = 257;
-
-pub const TOO_LONG: usize = 258;
-
-// The bytes from `from` to `to` of the buffer are the item. What is read and not used yet goes from `to` to `end`, and begins with the
-// byte `stop`, unless that is END, FAILED or TOO_LONG.
-#[derive(Drop)]
-pub struct Item {
-    pub from: usize,
-    pub to: usize,
-    pub end: usize,
-    pub stop: usize,
-}
-
-// The next byte stands at `at`: `byte`, or END where the input ended, or FAILED where a read failed.
-#[derive(Drop)]
-pub struct Peek {
-    pub at: usize,
-    pub end: usize,
-    pub byte: usize,
-}
-
-// How many bytes came and, where that is 0, why none did.
-#[derive(Drop)]
-struct Got {
-    count: usize,
-    none: usize,
-}
-
-fn widened(b: u8) -> usize {
-    b as usize
-}
-
-// Why a read brought nothing.
-fn reason(failed: bool) -> usize
-    ensures { 256 ≤ result }
-{
-    if failed {
-        return FAILED;
-    }
-    END
-}
-
-// One read of standard input.
-fn more(mut stdin: Stdin, room: &mut [u8]) -> Got
-    ensures { (result.count ≤ length room.old) × (256 ≤ result.none) }
-{
-    match stdin.read(room) {
-        Ok(count) => Got {
-            count,
-            none: reason(false),
-        },
-        Err(_) => Got {
-            count: 0,
-            none: reason(true),
-        },
-    }
-}
-
-// Whether the bytes hold a line's end.
-pub fn has_line(s: &[u8]) -> bool
-    ensures { result ≡ has 10 s.now }
-{
-    let mut i = 0;
-    while i < s.len() {
-        if s[i] == b'\n' {
-            return true;
-        }
-        i += 1;
-    }
-    false
-}
-
-// Where the first separator stands from `from` on, or `end`: a space or a line's end.
-fn separator(s: &[u8], from: usize, end: usize) -> usize
-    requires { Unread from end (length s.now) }
-    ensures { Unread from result end }
-{
-    let mut i = from;
-    while i < end {
-        let b = s[i];
-        if b == b' ' {
-            return i;
-        }
-        if b == b'\n' {
-            return i;
-        }
-        i += 1;
-    }
-    i
-}
-
-// Moves the bytes from `from` to `end` to the start.
-fn shift(s: &mut [u8], from: usize, end: usize)
-    requires { Unread from end (length s.old) }
-{
-    if from == 0 {
-        return;
-    }
-    let mut i = from;
-    while i < end {
-        s[i - from] = s[i];
-        i += 1;
-    }
-}
-
-fn found(from: usize, to: usize, end: usize, stop: usize) -> Item
-    ensures { (result.from ≡ from) × (result.to ≡ to) × (result.end ≡ end) × (result.stop ≡ stop) }
-{
-    Item {
-        from,
-        to,
-        end,
-        stop,
-    }
-}
-
-// The item that begins at `at`. Where no separator is at hand, the item moves to the start and more is read.
-pub fn next_item(stdin: Stdin, input: &mut [u8], at: usize, upto: usize) -> Item
-    requires { Unread at upto (length input.old) }
-    ensures { Found result.from result.to result.end result.stop (length input.old) }
-{
-    let mut from = at;
-    let mut end = upto;
-    let mut seen = at;
-    loop {
-        let to = separator(&input[..], seen, end);
-        if to < end {
-            return found(from, to, end, widened(input[to]));
-        }
-        let held = end - from;
-        if held == input.len() {
-            return found(from, end, end, TOO_LONG);
-        }
-        shift(&mut input[..], from, end);
-        let read = more(stdin, &mut input[held..]);
-        let got = read.count;
-        from = 0;
-        seen = held;
-        end = held + got;
-        if got == 0 {
-            return found(from, end, end, read.none);
-        }
-    }
+// What an item ended at.
+#[derive(Clone, Copy, Debug, PartialEq, Eq)]
+pub enum Stop {
+    Byte(u8),
+    // The input's end.
+    End,
+    // The buffer can't hold the rest.
+    TooLong,
 }
 
 // What is passed over: spaces, the rest of an item, or the rest of a line.
-pub const SPACES: u8 = 0;
-
-pub const ITEM: u8 = 1;
-
-pub const LINE: u8 = 2;
-
-// Whether a byte is passed over; a line's end never is.
-fn is_over(over: u8, byte: usize) -> bool
-    ensures { result ≡ is_over over byte }
-{
-    if byte == 10 {
-        return false;
-    }
-    if byte == 32 {
-        return over != ITEM;
-    }
-    over != SPACES
+#[derive(Clone, Copy, Debug, PartialEq, Eq)]
+pub enum Over {
+    Spaces,
+    Item,
+    Line,
 }
 
-// Passes over bytes, and leaves the first one that stays to be read.
-pub fn pass_over(stdin: Stdin, input: &mut [u8], start: usize, upto: usize, over: u8) -> Peek
-    requires { Unread start upto (length input.old) }
-    ensures { Found result.at result.at result.end result.byte (length input.old) }
+impl Over {
+    // Whether a byte is passed over; a line's end never is.
+    fn passes(self, byte: u8) -> bool
+        ensures { result ≡ is_over self byte }
+    {
+        match byte {
+            b'\n' => false,
+            b' ' => self != Over::Item,
+            _ => self != Over::Spaces,
+        }
+    }
+}
+
+// Whether a line ends at what is at hand: a line's end, or nothing, where the input ends.
+pub fn ends(byte: Option<u8>) -> bool
+    ensures { result ≡ ends_at byte }
 {
-    let mut at = start;
-    let mut end = upto;
-    let mut turns = u64::MAX;
-    while 0 < turns {
-        turns -= 1;
-        if at < end {
-            let byte = widened(input[at]);
-            if !is_over(over, byte) {
-                return Peek { at, end, byte };
-            }
-            at += 1;
+    matches!(byte, None | Some(b'\n'))
+}
+
+// An item without the carriage return before a line's end or the input's.
+pub fn counted(item: &[u8], stop: Stop) -> &[u8]
+    ensures { result.now ≡ counted_of item.now stop }
+{
+    match stop {
+        Stop::Byte(b'\n') | Stop::End => item.strip_suffix(b"\r").unwrap_or(item),
+        _ => item,
+    }
+}
+
+// Standard input, and what was read of it: from `item` to `at` the item that was read last, from `at` to `end` what is not used yet.
+#[derive(Drop)]
+pub struct Input {
+    stdin: Stdin,
+    buffer: [u8; ROOM],
+    item: usize,
+    at: usize,
+    end: usize,
+    ghost ordered: { item ≤ at },
+    ghost unread: { at ≤ end },
+    ghost within: { end ≤ ROOM },
+}
+
+impl Input {
+    pub fn new(stdin: Stdin) -> Self
+        ensures stdin { result.stdin ≡ stdin }
+        ensures buffer { result.buffer ≡ replicate ROOM 0 }
+        ensures item { result.item ≡ 0 }
+        ensures at { result.at ≡ 0 }
+        ensures end { result.end ≡ 0 }
+    {
+        Self {
+            stdin,
+            buffer: [0; ROOM],
+            item: 0,
+            at: 0,
+            end: 0,
+        }
+    }
+
+    // Whether a whole line is at hand.
+    pub fn has_line(&self) -> bool
+        ensures { result ≡ has 10 (slice_range self.now.buffer self.now.at self.now.end) }
+    {
+        self.buffer[self.at..self.end].contains(&b'\n')
+    }
+
+    // The byte at hand, if there is one.
+    fn at_hand(&self) -> Option<u8>
+        ensures { result ≡ at_hand self.now.buffer self.now.at self.now.end }
+    {
+        if self.at < self.end {
+            Some(self.buffer[self.at])
         } else {
-            let read = more(stdin, &mut input[..]);
-            at = 0;
-            end = read.count;
-            if end == 0 {
-                return Peek {
-                    at,
-                    end,
-                    byte: read.none,
-                };
+            None
+        }
+    }
+
+    // Reads more behind the item, which moves to the front, and says how many bytes came: 0 where the input ends.
+    fn more(&mut self) -> Result<usize, Fault>
+        ensures item { IfOk result (λ _. self.new.at + self.old.item ≡ self.old.at) }
+        ensures end { IfOk result (λ count. self.new.end + self.old.item ≡ self.old.end + count) }
+        ensures front { IfOk result (λ _. self.new.item ≡ 0) }
+        ensures kept { IfOk result (λ _. take (self.old.end - self.old.item) self.new.buffer ≡ slice_range self.old.buffer self.old.item self.old.end) }
+    {
+        self.buffer.copy_within(self.item..self.end, 0);
+        self.at -= self.item;
+        self.end -= self.item;
+        self.item = 0;
+        let mut stdin = self.stdin;
+        let Ok(count) = stdin.read(&mut self.buffer[self.end..]) else {
+            return Err(Fault::NoInput);
+        };
+        self.end += count;
+        Ok(count)
+    }
+
+    // Passes over the byte at hand.
+    pub fn pass_byte(&mut self)
+        ensures at { self.new.at ≡ min (self.old.at + 1) self.old.end }
+        ensures item { self.new.item ≡ self.old.item }
+        ensures end { self.new.end ≡ self.old.end }
+        ensures buffer { self.new.buffer ≡ self.old.buffer }
+        ensures stdin { self.new.stdin ≡ self.old.stdin }
+    {
+        if self.at < self.end {
+            self.at += 1;
+        }
+    }
+
+    // Passes over bytes, and says which is the first that stays to be read: none where the input ends.
+    pub fn pass_over(&mut self, over: Over) -> Result<Option<u8>, Fault>
+        ensures { IfOk result (λ byte. AtHand byte self.new.buffer self.new.at self.new.end) }
+    {
+        for _ in 0..u64::MAX {
+            match self.at_hand() {
+                Some(byte) if !over.passes(byte) => return Ok(Some(byte)),
+                Some(_) => self.at += 1,
+                None => {
+                    self.item = self.at;
+                    if self.more()? == 0 {
+                        return Ok(None);
+                    }
+                }
+            }
+        }
+        Ok(None)
+    }
+
+    // The byte behind the one at hand.
+    fn behind(&mut self) -> Result<Option<u8>, Fault>
+        requires { self.old.at < self.old.end }
+        ensures here { IfOk result (λ _. self.new.at < self.new.end) }
+        ensures kept { IfOk result (λ _. at_hand self.new.buffer self.new.at self.new.end ≡ at_hand self.old.buffer self.old.at self.old.end) }
+        ensures behind { IfOk result (λ byte. AtHand byte self.new.buffer (self.new.at + 1) self.new.end) }
+    {
+        if self.end - self.at == 1 {
+            self.item = self.at;
+            self.more()?;
+        }
+        if self.end - self.at == 1 {
+            return Ok(None);
+        }
+        Ok(Some(self.buffer[self.at + 1]))
+    }
+
+    // Passes over spaces, and over a carriage return at the line's end, and says which byte is at hand: none where the input ends.
+    pub fn next_byte(&mut self) -> Result<Option<u8>, Fault>
+        ensures { IfOk result (λ byte. AtHand byte self.new.buffer self.new.at self.new.end) }
+    {
+        let byte = self.pass_over(Over::Spaces)?;
+        if byte != Some(b'\r') {
+            return Ok(byte);
+        }
+        let next = self.behind()?;
+        if !ends(next) {
+            return Ok(byte);
+        }
+        self.at += 1;
+        Ok(next)
+    }
+
+    // Reads the item at hand, up to a space or a line's end. Where neither is there, more is read.
+    pub fn next_item(&mut self) -> Result<Stop, Fault>
+        ensures { IfOk result (λ stop. StopsAt stop self.new.buffer self.new.at self.new.end) }
+    {
+        self.item = self.at;
+        loop {
+            let rest = &self.buffer[self.at..self.end];
+            if let Some(count) = rest.iter().position(|b| matches!(b, b' ' | b'\n')) {
+                self.at += count;
+                return Ok(Stop::Byte(self.buffer[self.at]));
+            }
+            self.at = self.end;
+            if self.at - self.item == ROOM {
+                return Ok(Stop::TooLong);
+            }
+            if self.more()? == 0 {
+                return Ok(Stop::End);
             }
         }
     }
-    Peek { at, end, byte: END }
-}
 
-// Passes over the rest of an item that was met up to `start`, where the buffer couldn't hold it.
-fn pass_item(stdin: Stdin, input: &mut [u8], start: usize, upto: usize, stop: usize) -> Peek
-    requires { Unread start upto (length input.old) }
-    ensures { Unread result.at result.end (length input.old) }
-{
-    if stop == TOO_LONG {
-        return pass_over(stdin, input, start, upto, ITEM);
+    // The item that was read last and ended at `stop`; a carriage return at a line's end is no part of it.
+    pub fn item(&self, stop: Stop) -> &[u8]
+        ensures { result.now ≡ counted_of (slice_range self.now.buffer self.now.item self.now.at) stop }
+    {
+        counted(&self.buffer[self.item..self.at], stop)
     }
-    Peek {
-        at: start,
-        end: upto,
-        byte: stop,
-    }
-}
 
-// The byte behind a carriage return at `at`, which moves to the start where more must be read.
-fn behind(stdin: Stdin, input: &mut [u8], at: usize, upto: usize) -> Peek
-    requires { (at < upto) × (upto ≤ length input.old) }
-    ensures { Found result.at result.at result.end result.byte (length input.old) × (0 < result.at) }
-{
-    let next = at + 1;
-    if next < upto {
-        return Peek {
-            at: next,
-            end: upto,
-            byte: widened(input[next]),
-        };
+    // Reads again what stands behind byte `last` of the item.
+    pub fn cut_item(&mut self, last: usize)
+        ensures at { self.new.at ≡ min (self.old.item + last + 1) self.old.at }
+        ensures item { self.new.item ≡ self.old.item }
+        ensures end { self.new.end ≡ self.old.end }
+        ensures buffer { self.new.buffer ≡ self.old.buffer }
+        ensures stdin { self.new.stdin ≡ self.old.stdin }
+    {
+        if last < self.at - self.item {
+            self.at = self.item + last + 1;
+        }
     }
-    shift(&mut input[..], at, upto);
-    let read = more(stdin, &mut input[1..]);
-    let end = 1 + read.count;
-    if end == 1 {
-        return Peek {
-            at: 1,
-            end,
-            byte: read.none,
-        };
-    }
-    Peek {
-        at: 1,
-        end,
-        byte: widened(input[1]),
-    }
-}
-
-// Passes over spaces, and over a carriage return at the line's end.
-pub fn next_byte(stdin: Stdin, input: &mut [u8], start: usize, upto: usize) -> Peek
-    requires { Unread start upto (length input.old) }
-    ensures { Found result.at result.at result.end result.byte (length input.old) }
-{
-    let here = pass_over(stdin, &mut input[..], start, upto, SPACES);
-    if here.byte != 13 {
-        return here;
-    }
-    let next = behind(stdin, input, here.at, here.end);
-    if ends(next.byte) {
-        return next;
-    }
-    Peek {
-        at: next.at - 1,
-        end: next.end,
-        byte: 13,
-    }
-}
-
-// The same behind an item that ended with `stop`.
-pub fn next_behind(stdin: Stdin, input: &mut [u8], start: usize, upto: usize, stop: usize) -> Peek
-    requires { Unread start upto (length input.old) }
-    ensures { Found result.at result.at result.end result.byte (length input.old) }
-{
-    let rest = pass_item(stdin, &mut input[..], start, upto, stop);
-    next_byte(stdin, input, rest.at, rest.end)
-}
-
-// Whether a line ends at a byte, or the input does.
-pub fn ends(stop: usize) -> bool
-    ensures { result ≡ ends_at stop }
-{
-    if stop == 10 {
-        return true;
-    }
-    255 < stop
-}
-
-// How much of an item counts: a carriage return at the line's end doesn't.
-pub fn counted(s: &[u8], stop: usize) -> usize
-    ensures { (result ≡ counted_of s.now stop) × (result ≤ length s.now) }
-{
-    let n = s.len();
-    if n == 0 {
-        return 0;
-    }
-    if s[n - 1] != 13 {
-        return n;
-    }
-    if stop == 10 {
-        return n - 1;
-    }
-    if stop == END {
-        return n - 1;
-    }
-    n
 }

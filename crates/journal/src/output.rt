@@ -1,85 +1,97 @@
-// Standard output through a buffer that the caller lends.
-ghost use Rattle.std.specs.Prelude.{◌≡◌, ◌<◌, ◌≤◌, true, length};
-ghost use Rattle.journal.specs.Held.{Writable};
+// Standard output through a buffer.
+ghost use Rattle.std.specs.Prelude.{◌≡◌, ◌<◌, ◌≤◌, ◌++◌, ◌∷◌, [], true};
+ghost use Rattle.arrayvec.specs.ArrayVec.{array_vec_len};
+ghost use Rattle.journal.specs.declared.output.TheConstants.{ROOM};
 
-use std::io::Stdout;
+use arrayvec::ArrayVec;
+use std::fmt;
+use std::io::{Stdout, Write};
 
-// Standard output, the next free place of the buffer, and whether every write so far took all its bytes.
-#[derive(Clone, Copy)]
+// The buffer's bytes.
+pub const ROOM: usize = 65536;
+
+// Standard output, what waits to be written to it, and whether every write so far took all its bytes.
+#[derive(Drop)]
 pub struct Pen {
-    pub to: Stdout,
-    pub at: usize,
-    pub ok: bool,
+    stdout: Stdout,
+    buffer: ArrayVec<u8, ROOM>,
+    ok: bool,
+    ghost within: { array_vec_len buffer ≤ ROOM },
 }
 
 impl Pen {
-    pub fn new(to: Stdout) -> Self
-        ensures { (result.to ≡ to) × (result.at ≡ 0) × (result.ok ≡ true) }
+    pub fn new(stdout: Stdout) -> Self
+        ensures stdout { result.stdout ≡ stdout }
+        ensures buffer { result.buffer.items ≡ [] }
+        ensures ok { result.ok ≡ true }
     {
         Self {
-            to,
-            at: 0,
+            stdout,
+            buffer: ArrayVec::new(),
             ok: true,
         }
     }
-}
 
-// Writes out what the buffer holds, unless a write failed before.
-pub fn flush(out: &[u8], pen: Pen) -> Pen
-    requires { pen.at ≤ length out.now }
-    ensures { result.at ≡ 0 }
-{
-    let to = pen.to;
-    if !pen.ok {
-        return Pen {
-            to,
-            at: 0,
-            ok: false,
-        };
+    // Whether every write so far took all its bytes.
+    pub fn is_ok(&self) -> bool
+        ensures { result ≡ self.now.ok }
+    {
+        self.ok
     }
-    let at = pen.at;
-    let ok = to.write_all(&out[..at]).is_ok();
-    Pen { to, at: 0, ok }
-}
 
-// One byte more.
-pub fn byte(out: &mut [u8], pen: Pen, b: u8) -> Pen
-    requires { Writable pen.at (length out.old) }
-    ensures { result.at ≤ length out.old }
-{
-    let to = pen.to;
-    let at = pen.at;
-    if at < out.len() {
-        out[at] = b;
-        let ok = pen.ok;
-        return Pen { to, at: at + 1, ok };
+    // Writes out what the buffer holds, unless a write failed before.
+    pub fn flush(&mut self)
+        ensures { self.new.buffer.items ≡ [] }
+    {
+        if self.ok {
+            let stdout = self.stdout;
+            self.ok = stdout.write_all(self.buffer.as_slice()).is_ok();
+        }
+        self.buffer.clear();
     }
-    let empty = flush(&out[..], pen);
-    out[0] = b;
-    let ok = empty.ok;
-    Pen { to, at: 1, ok }
-}
 
-// Some bytes more.
-pub fn text(out: &mut [u8], pen: Pen, s: &[u8]) -> Pen
-    requires { Writable pen.at (length out.old) }
-    ensures { result.at ≤ length out.old }
-{
-    let mut next = pen;
-    let mut i = 0;
-    while i < s.len() {
-        next = byte(&mut out[..], next, s[i]);
-        i += 1;
+    // One byte more.
+    #[inline]
+    pub fn byte(&mut self, b: u8)
+        ensures room { array_vec_len self.old.buffer < ROOM → self.new.buffer.items ≡ self.old.buffer.items ++ b ∷ [] }
+        ensures full { ROOM ≤ array_vec_len self.old.buffer → self.new.buffer.items ≡ b ∷ [] }
+    {
+        if self.buffer.is_full() {
+            self.flush();
+        }
+        self.buffer.push(b);
     }
-    next
+
+    // Some bytes more.
+    pub fn bytes(&mut self, bytes: &[u8])
+        ensures { array_vec_len self.new.buffer ≤ ROOM }
+    {
+        for b in bytes {
+            self.byte(*b);
+        }
+    }
+
+    pub fn text(&mut self, text: &str)
+        ensures { array_vec_len self.new.buffer ≤ ROOM }
+    {
+        self.bytes(text.as_bytes());
+    }
+
+    // A number in decimal.
+    pub fn number(&mut self, n: u64)
+        ensures { array_vec_len self.new.buffer ≤ ROOM }
+    {
+        let mut digits = [0; 20];
+        let count = io::decimal(n, &mut digits);
+        self.bytes(&digits[..count]);
+    }
 }
 
-// A number in decimal.
-pub fn number(out: &mut [u8], pen: Pen, n: u64) -> Pen
-    requires { Writable pen.at (length out.old) }
-    ensures { result.at ≤ length out.old }
-{
-    let mut digits = [0u8; 20];
-    let k = io::decimal(n, &mut digits);
-    text(out, pen, &digits[..k])
+impl fmt::Write for Pen {
+    ghost write_str_gives = { λ _ _ pen. array_vec_len pen.buffer ≤ ROOM };
+
+    fn write_str(&mut self, text: &str) -> fmt::Result {
+        self.text(text);
+        Ok(())
+    }
 }

@@ -1,3 +1,2 @@
 pub mod RecordLaws
-pub mod ListedLaws
 pub mod PaymentLaws

@@ -1,4 +1,2 @@
-pub mod Records
-pub mod Listed
 pub mod Payment
 pub mod Slash

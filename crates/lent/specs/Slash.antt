@@ -1,4 +1,4 @@
--- A slash with the record lent: the by-value call's definitions, and what stands in the record afterwards. Assumes nothing.
+-- A slash with the record lent: the definitions of the call with the record in what it is given, and what stands in the record afterwards. Assumes nothing.
 use Rattle.std.specs.Prelude.{List, ℕ}
 use Rattle.types.specs.Base.{Outcome, after}
 use Rattle.image.specs.Changes.{Change}
@@ -7,7 +7,7 @@ use Rattle.integrity_pool.specs.declared.slash.Slashing.{Slashing}
 use Rattle.integrity_pool.specs.Changes.{slash_call, slashed_with}
 use Rattle.lent.specs.declared.slash.LentSlashing.{LentSlashing}
 
--- what the by-value call is given
+-- the slashing with the record
 abbrev pub slashing_of : DelegationRecord → LentSlashing → Slashing
 slashing_of found x = record {
   delegation_record = found;

@@ -2,6 +2,6 @@
 // They meet the definitions of the calls over words, at the words of the records.
 #![tactic(auto)]
 
-mod gather;
 pub mod payment;
+mod records;
 pub mod slash;

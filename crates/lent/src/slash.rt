@@ -1,16 +1,17 @@
-// Item 9's slash with the staker's record lent by `&mut`, above the by-value call.
+// Item 9's slash with the staker's record lent by `&mut`.
 ghost use Rattle.std.specs.Prelude.{◌≡◌};
+ghost use Rattle.types.specs.Base.{outcome_of};
 ghost use Rattle.image.specs.Changes.{changed_image};
-ghost use Rattle.integrity_pool.specs.Changes.{slash_is};
 ghost use Rattle.lent.specs.Slash.{slashing_of, lent_slash, lent_slash_call, slash_record};
 
 use integrity_pool::payment::DelegationRecord;
-use integrity_pool::slash::{SlashAnswer, Slashing};
+use integrity_pool::slash::Slashing;
 use pool::changes::Delegation;
+use types::refusals::Refusal;
 use types::{Amount, Epoch};
 
 // What a slash is given besides the pool and the record.
-#[derive(Drop)]
+#[derive(Clone, Copy, Debug, PartialEq, Eq)]
 pub struct LentSlashing {
     pub delegation: Delegation,
     // The slash event's number with this publisher, and its epoch.
@@ -21,83 +22,37 @@ pub struct LentSlashing {
     pub preunlocking_slashed: Amount,
 }
 
-// The answer, and the record to store in every case.
-#[derive(Drop)]
-pub struct Slashed {
-    pub answer: SlashAnswer,
-    pub delegation_record: DelegationRecord,
-}
-
-fn slashing_of(found: DelegationRecord, given: LentSlashing) -> Slashing
-    ensures { result ≡ slashing_of found given }
-{
-    let delegation = given.delegation;
-    let slash_event_epoch = given.slash_event_epoch;
-    let locked_slashed = given.locked_slashed;
-    let preunlocking_slashed = given.preunlocking_slashed;
-    Slashing {
-        delegation_record: found,
-        delegation,
-        index: given.index,
-        slash_event_epoch,
-        locked_slashed,
-        preunlocking_slashed,
-    }
-}
-
-// The by-value call. A refused slash keeps the record that was found.
-fn slash_found(
-    pool: &mut [u64],
-    p: usize,
-    e: usize,
-    found: DelegationRecord,
-    given: LentSlashing,
-) -> Slashed
-    ensures { (slash_is result.answer ≡ lent_slash p e pool.old found given) × (result.delegation_record ≡ slash_record found (lent_slash p e pool.old found given)) × (pool.new ≡ changed_image p e pool.old (lent_slash_call p e pool.old found given)) }
-{
-    let slashing = slashing_of(found, given);
-    let answer = integrity_pool::slash::slash(pool, p, e, slashing);
-    match answer {
-        SlashAnswer::Refused(k) => Slashed {
-            answer: SlashAnswer::Refused(k),
+impl LentSlashing {
+    // The slashing with the record that was found.
+    fn with_record(&self, found: DelegationRecord) -> Slashing
+        ensures { result ≡ slashing_of found self.now }
+    {
+        Slashing {
             delegation_record: found,
-        },
-        SlashAnswer::Slashed(kept) => Slashed {
-            answer: SlashAnswer::Slashed(kept),
-            delegation_record: kept,
-        },
+            delegation: self.delegation,
+            index: self.index,
+            slash_event_epoch: self.slash_event_epoch,
+            locked_slashed: self.locked_slashed,
+            preunlocking_slashed: self.preunlocking_slashed,
+        }
     }
 }
 
-// What a slash event took from an account leaves the publisher's totals, and the lent record moves past the event.
+// What a slash event took from an account leaves the publisher's totals, and the lent record moves past the event: it becomes the answer. A
+// refused slash leaves it as it was.
 pub fn slash(
     pool: &mut [u64],
     p: usize,
     e: usize,
     delegation_record: &mut DelegationRecord,
-    given: LentSlashing,
-) -> SlashAnswer
-    ensures { (slash_is result ≡ lent_slash p e pool.old delegation_record.old given) × (delegation_record.new ≡ slash_record delegation_record.old (lent_slash p e pool.old delegation_record.old given)) × (pool.new ≡ changed_image p e pool.old (lent_slash_call p e pool.old delegation_record.old given)) }
+    given: &LentSlashing,
+) -> Result<DelegationRecord, Refusal>
+    ensures answer { outcome_of result ≡ lent_slash p e pool.old delegation_record.old given.now }
+    ensures record { delegation_record.new ≡ slash_record delegation_record.old (lent_slash p e pool.old delegation_record.old given.now) }
+    ensures image { pool.new ≡ changed_image p e pool.old (lent_slash_call p e pool.old delegation_record.old given.now) }
 {
-    let slashed = slash_found(pool, p, e, *delegation_record, given);
-    *delegation_record = slashed.delegation_record;
-    slashed.answer
-}
-
-// The same for a caller that has the record by value: it is lent, and comes back beside the answer.
-pub fn slash_by_value(
-    pool: &mut [u64],
-    p: usize,
-    e: usize,
-    found: DelegationRecord,
-    given: LentSlashing,
-) -> Slashed
-    ensures { (slash_is result.answer ≡ lent_slash p e pool.old found given) × (result.delegation_record ≡ slash_record found (lent_slash p e pool.old found given)) × (pool.new ≡ changed_image p e pool.old (lent_slash_call p e pool.old found given)) }
-{
-    let mut delegation_record = found;
-    let answer = slash(pool, p, e, &mut delegation_record, given);
-    Slashed {
-        answer,
-        delegation_record,
-    }
+    let slashing = given.with_record(*delegation_record);
+    let kept = integrity_pool::slash::slash(pool, p, e, &slashing)?;
+    *delegation_record = kept;
+    Ok(kept)
 }

@@ -1,9 +1,5 @@
--- Laws of an image's zeros and of a copy. Assumes nothing.
+-- Laws of an image's zeros. Assumes nothing.
 use Rattle.std.proofs.Common.{◌≡◌, ℕ, ◌+◌, ◌<◌, ◌≤◌, ◌⊎◌, List, length, get_or, sym, subst, ⊎_elim, eq-or-lt_of_le, arith}
-use lib.Seq.{paste}
-use Rattle.files.specs.declared.Loaded.{Loaded}
-use Rattle.files.specs.declared.Loaded.TheVariants.{Words}
-use Rattle.files.specs.Answers.{count_of}
 use Rattle.mirror.specs.Site.{NextNonzero}
 
 -- every word from `from` to i is 0
@@ -28,12 +24,3 @@ module _ (l : List ℕ) (from i : ℕ) where
 
   pub next_none : length l ≤ i → Passed l from i → NextNonzero l from i
   next_none h p = record { ordered = p.ordered; within = p.within; zeros = p.zeros; nonzero = λ b e. omega arith }
-
--- the copy of all words
-pub copied :
-    (old new words : List ℕ) (i : ℕ) → length words ≤ i → i ≤ length words → new ≡ paste old 0 words i → new ≡ paste old 0 words (length words)
-copied old new words i low high e = let q : i ≡ length words = omega arith in rw q at e
-
--- the words of a file that was loaded fit their room
-pub loaded_fits : (r : Loaded) (n room : ℕ) → r ≡ Words n → count_of r ≤ room → n ≤ room
-loaded_fits r n room e h = rw e at h

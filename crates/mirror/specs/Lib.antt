@@ -1,2 +1,3 @@
-pub mod Site
+pub mod Accounts
 pub mod Args
+pub mod Site

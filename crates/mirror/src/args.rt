@@ -1,78 +1,108 @@
 // A line's numbers and keys as the library takes them.
-ghost use Rattle.std.specs.Prelude.{◌≡◌, ◌<◌};
-ghost use Rattle.mirror.specs.Args.{key_at, key_or_none, record_in, delegation_in, state_numbered, state_number};
+ghost use Rattle.std.specs.Prelude.{◌≡◌};
+ghost use Rattle.mirror.specs.Args.{key_or_none, key_at, record_in, delegation_in, claim_in, slashing_in, accounts_in, given_in};
 
-use integrity_pool::payment::DelegationRecord;
+use advance_plan::Given;
+use integrity_pool::payment::{Claim, DelegationRecord};
+use integrity_pool::slash::Slashing;
+use integrity_pool::stake_account::StakeAccounts;
+use journal::fields::Fields;
 use pool::changes::Delegation;
-use positions::position::PositionState;
-use positions::{Key, OptionKey};
-use types::Epoch;
-
-// The key of field k.
-pub fn key(args: [u64; 50], k: usize) -> Key
-    requires { k < 10 }
-    ensures { result ≡ key_at args k }
-{
-    let i = 10 + k * 4;
-    Key(args[i], args[i + 1], args[i + 2], args[i + 3])
-}
+use positions::Key;
+use types::{Amount, Epoch};
 
 // The key of field k, or none.
-pub fn key_or_none(args: [u64; 50], k: usize) -> OptionKey
-    requires { k < 10 }
-    ensures { result ≡ key_or_none args k }
+pub fn key_or_none(fields: &Fields, k: usize) -> Option<Key>
+    ensures { result ≡ key_or_none fields.now.values.items k }
 {
-    if args[k] == 0 {
-        return OptionKey::None;
-    }
-    OptionKey::Some(key(args, k))
+    fields.key(k).map(Key::from)
+}
+
+// The key of field k, the zero key where it is none.
+pub fn key(fields: &Fields, k: usize) -> Key
+    ensures { result ≡ key_at fields.now.values.items k }
+{
+    key_or_none(fields, k).unwrap_or_default()
 }
 
 // RECORD_EPOCH NEXT_INDEX, which a payment and a slash have as fields 3 and 4.
-pub fn delegation_record(args: [u64; 50]) -> DelegationRecord
-    ensures { result ≡ record_in args }
+fn delegation_record(fields: &Fields) -> DelegationRecord
+    ensures { result ≡ record_in fields.now.values.items }
 {
     DelegationRecord {
-        last_epoch: Epoch(args[3]),
-        next_slash_event_index: args[4],
+        last_epoch: Epoch(fields.number(3)),
+        next_slash_event_index: fields.number(4),
     }
 }
 
-// NOW PUBLISHER ACCOUNT, which an add, a remove and a slash begin with.
-pub fn delegation(args: [u64; 50]) -> Delegation
-    ensures { result ≡ delegation_in args }
+// NOW PUBLISHER ACCOUNT, which a payment, an add, a remove and a slash begin with.
+pub fn delegation(fields: &Fields) -> Delegation
+    ensures { result ≡ delegation_in fields.now.values.items }
 {
-    let publisher = key(args, 1);
-    let account = key(args, 2);
     Delegation {
+        publisher: key(fields, 1),
+        stake_account_positions: key(fields, 2),
+        current_epoch: fields.number(0),
+    }
+}
+
+// NOW Y CUSTODY VERIFIED, and the length of an epoch.
+pub fn given(fields: &Fields, epoch_duration: u64) -> Given
+    ensures { result ≡ given_in fields.now.values.items epoch_duration }
+{
+    Given {
+        current_epoch: fields.number(0),
+        y: fields.number(1),
+        pool_reward_custody_balance: fields.number(2),
+        epoch_duration,
+        is_verified: fields.number(3),
+    }
+}
+
+// NOW PUBLISHER ACCOUNT RECORD_EPOCH NEXT_INDEX PUBLISHER_ACCOUNT CUSTODY_FLAG, and the length of unlocking.
+pub fn claim(fields: &Fields, unlocking_duration: u64) -> Claim
+    ensures { result ≡ claim_in fields.now.values.items unlocking_duration }
+{
+    let Delegation {
         publisher,
-        stake_account_positions: account,
-        current_epoch: args[0],
+        stake_account_positions,
+        current_epoch,
+    } = delegation(fields);
+    Claim {
+        delegation_record: delegation_record(fields),
+        publisher,
+        stake_account_positions,
+        publisher_stake_account_positions: key_or_none(fields, 5),
+        publisher_stake_account_custody: fields.number(6),
+        current_epoch,
+        unlocking_duration,
     }
 }
 
-// The state that a line's field has the number of.
-pub fn position_state(n: u64) -> PositionState
-    ensures { result ≡ state_numbered n }
+// NOW PUBLISHER ACCOUNT RECORD_EPOCH NEXT_INDEX INDEX EVENT_EPOCH LOCKED PREUNLOCKING
+pub fn slashing(fields: &Fields) -> Slashing
+    ensures { result ≡ slashing_in fields.now.values.items }
 {
-    match n {
-        1 => PositionState::LOCKING,
-        2 => PositionState::LOCKED,
-        3 => PositionState::PREUNLOCKING,
-        4 => PositionState::UNLOCKING,
-        _ => PositionState::UNLOCKED,
+    Slashing {
+        delegation_record: delegation_record(fields),
+        delegation: delegation(fields),
+        index: fields.number(5),
+        slash_event_epoch: Epoch(fields.number(6)),
+        locked_slashed: Amount(fields.number(7)),
+        preunlocking_slashed: Amount(fields.number(8)),
     }
 }
 
-// The number that a line's field has for a state.
-pub fn state_number(state: PositionState) -> usize
-    ensures { (result ≡ state_number state) × (0 < result) }
+// PUBLISHER SIGNER AUTHORITY OLD OLD_OWNER OLD_POSITIONS NEW NEW_POSITIONS
+pub fn accounts(fields: &Fields) -> StakeAccounts
+    ensures { result ≡ accounts_in fields.now.values.items }
 {
-    match state {
-        PositionState::LOCKING => 1,
-        PositionState::LOCKED => 2,
-        PositionState::PREUNLOCKING => 3,
-        PositionState::UNLOCKING => 4,
-        PositionState::UNLOCKED => 5,
+    StakeAccounts {
+        publisher: key(fields, 0),
+        signer: key(fields, 1),
+        reward_program_authority: key(fields, 2),
+        current_stake_account_positions: key_or_none(fields, 3),
+        current_owner: key(fields, 4),
+        new_stake_account_positions: key_or_none(fields, 6),
     }
 }

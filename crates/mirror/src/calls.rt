@@ -1,79 +1,121 @@
-// A line's call goes to its kind.
-ghost use Rattle.std.specs.Prelude.{length};
-ghost use Rattle.mirror.specs.Site.{Ready, Kept, Held};
+// A line's call is made, and answered.
+ghost use Rattle.std.specs.Prelude.{◌≡◌, [], ◌∷◌};
 
-use crate::change_calls::change_call;
-use crate::image_calls::{file_call, image_call};
-use crate::pool_calls::{pool_call, state_call};
-use crate::site::{Done, Site, failed, run_call, site_call};
-use journal::line::Line;
+use crate::failure::{Failure, check_accounts};
+use crate::site::{Site, next_nonzero};
+use integrity_pool::payment::{DelegationRecord, Payment};
+use journal::answer::{self, ok};
+use journal::calls::Call;
+use journal::fields::Fields;
 use journal::output::Pen;
-use journal::{calls, fields};
+use pool::advance::Advanced;
 use std::process::Process;
 use std::rt::Files;
+use types::refusals::Refusal;
 
-// Whether a call is on the image as it is, the calls that lay out a site left out.
-fn on_image(call: usize) -> bool {
-    if call == calls::SHOW {
-        return true;
-    }
-    call <= calls::NONZERO
+// The values of an advance's answer.
+fn advanced_values(done: Advanced) -> [u64; 5]
+    ensures { result ≡ done.y.0 ∷ done.set_aside.0 ∷ done.matched ∷ done.seated ∷ done.dropped ∷ [] }
+{
+    [
+        done.y.0,
+        done.set_aside.0,
+        done.matched,
+        done.seated,
+        done.dropped,
+    ]
 }
 
-// Whether a call is on a file.
-fn is_file(call: usize) -> bool {
-    if call == calls::LOAD {
-        return true;
-    }
-    call == calls::SAVE
+// The record to keep.
+fn record_values(record: DelegationRecord) -> [u64; 2]
+    ensures { result ≡ record.last_epoch.0 ∷ record.next_slash_event_index ∷ [] }
+{
+    [record.last_epoch.0, record.next_slash_event_index]
 }
 
-// One call, its fields read.
-pub fn act(
+// The values of a payment's answer.
+fn payment_values(paid: Payment) -> [u64; 6]
+    ensures { result ≡ paid.delegator_reward.0 ∷ paid.publisher_reward.0 ∷ paid.delegation_record.last_epoch.0 ∷ paid.delegation_record.next_slash_event_index ∷ paid.reads ∷ paid.custody_fall.0 ∷ [] }
+{
+    let [epoch, index] = record_values(paid.delegation_record);
+    [
+        paid.delegator_reward.0,
+        paid.publisher_reward.0,
+        epoch,
+        index,
+        paid.reads,
+        paid.custody_fall.0,
+    ]
+}
+
+// Every word other than 0 with its place.
+fn nonzero(image: &[u64], pen: &mut Pen) {
+    pen.text("ok");
+    let mut place = next_nonzero(image, 0);
+    while place < image.len() {
+        pen.byte(b' ');
+        pen.number(place as u64);
+        pen.byte(b':');
+        pen.number(image[place]);
+        place = next_nonzero(image, place + 1);
+    }
+    pen.byte(b'\n');
+}
+
+// image, or image WORDS
+fn image(site: &mut Site, fields: &Fields, pen: &mut Pen) {
+    if fields.count() == 0 {
+        ok(pen, site.image.as_slice());
+    } else {
+        ok(pen, &[site.take(fields.last_list())]);
+    }
+}
+
+// The answer of a call without values.
+fn done(made: Result<(), Refusal>, pen: &mut Pen) -> Result<(), Refusal>
+    ensures { result ≡ made }
+{
+    made?;
+    ok(pen, &[]);
+    Ok(())
+}
+
+// Makes a line's call, and answers unless it is refused or the line is wrong.
+pub fn make_call(
+    call: Call,
     rt: &impl Files,
     process: Process,
-    line: Line,
-    site: Site,
-    bytes: &[u8],
-    words: &mut [u64],
-    pool: &mut [u64],
-    out: &mut [u8],
-    pen: Pen,
-) -> Done
-    requires { Ready site.size pen.at (length pool.old) (length out.old) × Held line.bytes line.list line.words (length bytes.now) (length words.old) (length pool.old) }
-    ensures { Kept result.site.size result.pen.at (length pool.old) (length out.old) }
-{
-    if line.what != 0 {
-        let field = fields::wrong_field(line.what, line.count);
-        return failed(site, pen, field, line.what);
+    site: &mut Site,
+    fields: &mut Fields,
+    pen: &mut Pen,
+) -> Result<(), Failure> {
+    match call {
+        Call::New => ok(pen, &[site.lay_out(fields)]),
+        Call::Settings => {
+            site.set(fields);
+            ok(pen, &[]);
+        }
+        Call::Image => image(site, fields, pen),
+        Call::Nonzero => nonzero(site.image.as_slice(), pen),
+        Call::Load => ok(pen, &[site.load(rt, fields)?]),
+        Call::Save => ok(pen, &[site.save(rt, process, fields)?]),
+        Call::Fresh => done(site.fresh(fields), pen)?,
+        Call::Advance => ok(pen, &advanced_values(site.advance(fields)?)),
+        Call::Forecast => ok(pen, &[site.forecast(fields)?.0]),
+        Call::Payment => ok(pen, &payment_values(site.payment(fields)?)),
+        Call::Add => done(site.add(fields), pen)?,
+        Call::Remove => done(site.remove(fields), pen)?,
+        Call::CreateSlashEvent => ok(pen, &[site.create_slash_event(fields)?.0]),
+        Call::Slash => ok(pen, &record_values(site.slash(fields)?)),
+        Call::Fee => done(site.fee(fields), pen)?,
+        Call::StakeAccount => {
+            check_accounts(fields)?;
+            done(site.stake_account(fields), pen)?;
+        }
+        Call::Show => show::show(site.image.as_slice(), site.p, site.e, pen),
+        Call::State => answer::state(pen, site.state(fields)?),
+        Call::Help => answer::help(pen, fields.call(0)),
+        Call::Quit => ok(pen, &[]),
     }
-    let call = line.call;
-    let args = line.args;
-    let n = line.bytes;
-    let field = &bytes[..n];
-    if is_file(call) {
-        return file_call(rt, process, call, site, field, words, pool, out, pen);
-    }
-    let from = line.list;
-    let to = line.words;
-    // A line has at most two lists: the first ends where the last begins.
-    let lists = &words[..];
-    let first = &lists[..from];
-    let list = &lists[from..to];
-    if call <= calls::SETTINGS {
-        return site_call(call, site, args, pool, out, pen);
-    }
-    if on_image(call) {
-        return image_call(call, site, line.count == 1, list, pool, out, pen);
-    }
-    if call <= calls::PAYMENT {
-        return pool_call(call, site, args, field, list, pool, out, pen);
-    }
-    if call == calls::POSITION_STATE {
-        return state_call(site, args, list, out, pen);
-    }
-    if calls::HELP <= call {
-        return run_call(call, site, args, out, pen);
-    }
-    change_call(call, site, args, first, list, pool, out, pen)
+    Ok(())
 }

@@ -1,166 +1,118 @@
-// What a run keeps of the pool besides its words, and the calls that lay it out.
-ghost use Rattle.std.specs.Prelude.{◌≤◌, length};
-ghost use Rattle.journal.specs.Held.{Writable};
-ghost use Rattle.mirror.specs.Site.{Ready, Kept};
+// What a run keeps of the pool, and the calls that lay it out.
+ghost use Rattle.std.specs.Prelude.{◌≡◌, ◌≤◌, [], length, replicate, IfOk, OnErr};
+ghost use Rattle.journal.specs.declared.fields.TheConstants.{WORDS_ROOM};
+ghost use Rattle.mirror.specs.Site.{NextNonzero, with_image, with_settings, laid_out, SavedAs};
 
-use advance_plan::Given;
-use journal::output::Pen;
-use journal::{answer, calls};
+use crate::failure::Failure;
+use arrayvec::ArrayVec;
+use image::pool_data::PoolData;
+use journal::fields::{Fields, WORDS_ROOM};
+use std::process::Process;
+use std::rt::Files;
 
-// P and E, the image's length in the pool's buffer, and the settings.
-#[derive(Clone, Copy)]
+// The image, one word more than the largest at most; P and E; and the settings.
+#[derive(Drop)]
 pub struct Site {
+    pub image: ArrayVec<u64, WORDS_ROOM>,
     pub p: usize,
     pub e: usize,
-    pub size: usize,
     pub epoch_duration: u64,
     pub unlocking_duration: u64,
 }
 
-// The site after a call, the pen, which field was wrong, the first being 1, or 0, and what was wrong, or 0.
-#[derive(Drop)]
-pub struct Done {
-    pub site: Site,
-    pub pen: Pen,
-    pub field: usize,
-    pub what: u8,
+// The image becomes this many zero words.
+fn set_zeros(image: &mut ArrayVec<u64, WORDS_ROOM>, count: usize)
+    requires { count ≤ WORDS_ROOM }
+    ensures { image.new.items ≡ replicate count 0 }
+{
+    image.clear();
+    for _ in 0..count {
+        image.push(0);
+    }
 }
 
 impl Site {
     // Before the first `new`.
-    pub fn first() -> Self
-        ensures { result.size ≤ 0 }
+    pub fn new() -> Self
+        ensures { result.image.items ≡ [] }
     {
         Self {
+            image: ArrayVec::new(),
             p: 0,
             e: 0,
-            size: 0,
             epoch_duration: 604800,
             unlocking_duration: 1,
         }
     }
 
-    // The image has another length; P and E stay.
-    pub fn sized(self, size: usize) -> Self
-        ensures { result.size ≤ size }
+    // The image's length, which the calls below answer.
+    fn length(&self) -> u64
+        ensures { result ≡ length self.now.image.items }
     {
-        Self {
-            p: self.p,
-            e: self.e,
-            size,
-            epoch_duration: self.epoch_duration,
-            unlocking_duration: self.unlocking_duration,
+        self.image.len() as u64
+    }
+
+    // new P E
+    pub fn lay_out(&mut self, fields: &Fields) -> u64
+        ensures site { self.new ≡ laid_out self.old fields.now.values.items }
+        ensures answer { result ≡ length self.new.image.items }
+    {
+        self.p = fields.number(0) as usize;
+        self.e = fields.number(1) as usize;
+        set_zeros(&mut self.image, image::size(self.p, self.e));
+        self.length()
+    }
+
+    // settings SECONDS UNLOCKING
+    pub fn set(&mut self, fields: &Fields)
+        ensures { self.new ≡ with_settings self.old fields.now.values.items }
+    {
+        self.epoch_duration = fields.number(0);
+        self.unlocking_duration = fields.number(1);
+    }
+
+    // image WORDS
+    pub fn take(&mut self, words: &[u64]) -> u64
+        requires { length words.now ≤ WORDS_ROOM }
+        ensures site { self.new ≡ with_image self.old words.now }
+        ensures answer { result ≡ length words.now }
+    {
+        self.image.clear();
+        let _ = self.image.try_extend_from_slice(words);
+        self.length()
+    }
+
+    // load PATH. The words go to the fields' lists first: where the file can't be read the image stays.
+    pub fn load(&mut self, rt: &impl Files, fields: &mut Fields) -> Result<u64, Failure>
+        ensures refused { OnErr result (self.new ≡ self.old) }
+        ensures rest { self.new ≡ with_image self.old self.new.image.items }
+        ensures answer { IfOk result (λ count. count ≡ length self.new.image.items) }
+    {
+        let path = &fields.bytes[..fields.bytes_count];
+        let count = files::load(rt, path, &mut fields.words)?;
+        Ok(self.take(&fields.words[..count]))
+    }
+
+    // save PATH
+    pub fn save(&self, rt: &impl Files, process: Process, fields: &Fields) -> Result<u64, Failure>
+        ensures { SavedAs self.now result }
+    {
+        let image = self.image.as_slice();
+        PoolData::check(image, self.p, self.e)?;
+        files::save(rt, process, fields.bytes(), image)?;
+        Ok(self.length())
+    }
+}
+
+// The place of the next word other than 0, or the image's length.
+pub fn next_nonzero(image: &[u64], from: usize) -> usize
+    requires { from ≤ length image.now }
+    ensures { NextNonzero image.now from result }
+{
+    for place in from..image.len() {
+        if image[place] != 0 {
+            return place;
         }
     }
-
-    // What an advance is given besides the image and the message.
-    pub fn given(self, args: [u64; 50]) -> Given {
-        Given {
-            current_epoch: args[0],
-            y: args[1],
-            pool_reward_custody_balance: args[2],
-            epoch_duration: self.epoch_duration,
-            is_verified: args[3],
-        }
-    }
-}
-
-// After a call that was made.
-pub fn finished(site: Site, pen: Pen) -> Done
-    ensures { (result.site.size ≤ site.size) × (result.pen.at ≤ pen.at) }
-{
-    Done {
-        site,
-        pen,
-        field: 0,
-        what: 0,
-    }
-}
-
-// After a line that was wrong.
-pub fn failed(site: Site, pen: Pen, field: usize, what: u8) -> Done
-    ensures { (result.site.size ≤ site.size) × (result.pen.at ≤ pen.at) }
-{
-    Done {
-        site,
-        pen,
-        field,
-        what,
-    }
-}
-
-// The image's length as the answer.
-pub fn tell_size(site: Site, out: &mut [u8], pen: Pen) -> Done
-    requires { Writable pen.at (length out.old) }
-    ensures { (result.site.size ≤ site.size) × (result.pen.at ≤ length out.old) }
-{
-    let size = site.size;
-    let next = answer::ok(out, pen, &[size as u64]);
-    finished(site, next)
-}
-
-// new P E
-fn new(site: Site, args: [u64; 50], pool: &mut [u64], out: &mut [u8], pen: Pen) -> Done
-    requires { Ready site.size pen.at (length pool.old) (length out.old) }
-    ensures { Kept result.site.size result.pen.at (length pool.old) (length out.old) }
-{
-    let p = args[0] as usize;
-    let e = args[1] as usize;
-    let size = image::size(p, e);
-    image::clear(&mut pool[..size]);
-    let next = Site {
-        p,
-        e,
-        size,
-        epoch_duration: site.epoch_duration,
-        unlocking_duration: site.unlocking_duration,
-    };
-    tell_size(next, out, pen)
-}
-
-// settings SECONDS UNLOCKING
-fn settings(site: Site, args: [u64; 50], out: &mut [u8], pen: Pen) -> Done
-    requires { Writable pen.at (length out.old) }
-    ensures { (result.site.size ≤ site.size) × (result.pen.at ≤ length out.old) }
-{
-    let next = Site {
-        p: site.p,
-        e: site.e,
-        size: site.size,
-        epoch_duration: args[0],
-        unlocking_duration: args[1],
-    };
-    let told = answer::ok(out, pen, &[]);
-    finished(next, told)
-}
-
-// help CALL, where `call` is its number, or 0 for all calls; quit, which ends the run when it is answered
-pub fn run_call(call: usize, site: Site, args: [u64; 50], out: &mut [u8], pen: Pen) -> Done
-    requires { Writable pen.at (length out.old) }
-    ensures { (result.site.size ≤ site.size) × (result.pen.at ≤ length out.old) }
-{
-    if call == calls::HELP {
-        let told = answer::help(out, pen, args[0] as usize);
-        return finished(site, told);
-    }
-    let told = answer::ok(out, pen, &[]);
-    finished(site, told)
-}
-
-// Calls that lay out a site.
-pub fn site_call(
-    call: usize,
-    site: Site,
-    args: [u64; 50],
-    pool: &mut [u64],
-    out: &mut [u8],
-    pen: Pen,
-) -> Done
-    requires { Ready site.size pen.at (length pool.old) (length out.old) }
-    ensures { Kept result.site.size result.pen.at (length pool.old) (length out.old) }
-{
-    if call == calls::NEW {
-        return new(site, args, pool, out, pen);
-    }
-    settings(site, args, out, pen)
+    image.len()
 }

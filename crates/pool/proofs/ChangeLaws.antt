@@ -1,99 +1,165 @@
 -- Item 9's changes, one law for each way out of the code. Assumes nothing.
 use mathlib.Core.Path.{◌≡◌, refl, sym, ap, ◌∙◌}
 use mathlib.Core.Bool.{Bool, true, false}
-use mathlib.Core.List.{List}
 use Prim.Native.Nat.{ℕ, ◌<◌}
 use native.Mathlib.Omega.{arith}
-use lib.ListN.{get_or}
-use borrow.Author.Tests.{eq-eqb, ne_eqb}
-use Rattle.std.specs.Prelude.{if◌then◌else◌}
-use Rattle.types.specs.Base.{Outcome, refused, accepted, map_outcome, and_then}
-use Rattle.types.specs.Refusals.{outdated_publisher_accounting}
+use borrow.Author.Tests.{eq-eqb, ne_eqb, eqb-true, eqb-false}
+use Rattle.std.specs.Prelude.{if◌then◌else◌, eqb, Result, Ok, Err}
+use Rattle.types.specs.Base.{Outcome, refused, accepted, map_outcome, and_then, outcome_of}
+use Rattle.types.specs.Refusals.{number_of, outdated_publisher_accounting}
+use Rattle.types.specs.declared.refusals.Refusal.{Refusal}
 use Rattle.types.proofs.OutcomeLaws.{then_accepts}
 use Rattle.delegation.specs.declared.DelegationState.{DelegationState}
 use Rattle.delegation.specs.Side.{Side, side_of}
-use Rattle.image.specs.Layout.{Whose, read, image}
+use Rattle.image.specs.declared.pool_data.PoolData.{PoolData}
+use Rattle.image.specs.declared.pool_data.PoolDataMut.{PoolDataMut}
+use Rattle.image.specs.Layout.{Words, head, last_updated_epoch}
+use Rattle.image.specs.Pool.{words_of, words_in, Becomes}
 use Rattle.image.specs.Seats.{side_at, with_side, publisher_index_of}
 use Rattle.image.specs.Changes.{self_side, whose, Change, side, changed_image, acceptance}
 use Rattle.image.proofs.SeatLaws.{index_lt}
 use Rattle.image.proofs.ChangeWrites.{refused_leaves, refused_answers}
 use Rattle.pool.specs.declared.changes.Delegation.{Delegation}
-use Rattle.pool.specs.Changes.{up_to_date, delegation_seat, slash_seat, account_side, side_change}
-
--- a test that stands in front of an accepted outcome was passed
-if_accepted : {A : Type 0} (t : Bool) (k : ℕ) (rest : Outcome A) (a : A) → (if t then rest else refused k) ≡ accepted a → rest ≡ accepted a
-if_accepted true k rest a e = e
-if_accepted false k rest a e = absurd (let z : ◌≡◌ {A = ℕ} 0 1 = cc in omega arith)
+use Rattle.pool.specs.Changes.{up_to_date, dated, delegation_seat, slash_seat, account_side, side_change, ChangesAs}
 
 -- ---- the publisher's seat
 
-module _ (P E : ℕ) (img : List ℕ) (d : Delegation) where
-  -- of an add or a remove: there is none; it is there, but the pool has not been advanced; it is there
-  pub seat_missing : (k : ℕ) → refused k ≡ publisher_index_of P (read P E img) d.publisher → refused k ≡ delegation_seat P (read P E img) d
+-- the pool has been advanced to the epoch, or not
+module _ (w : Words) (now : ℕ) where
+  pub is_dated : w (head last_updated_epoch) ≡ now → accepted tt ≡ dated w now
+  unfolding up_to_date
+  is_dated e = rw (eq-eqb _ _ e) refl
+
+  pub not_dated : (w (head last_updated_epoch) ≡ now → ⊥) → refused outdated_publisher_accounting ≡ dated w now
+  unfolding up_to_date
+  not_dated n = rw (ne_eqb _ _ n) refl
+
+  -- what the answer tells
+  pub dated_says : accepted tt ≡ dated w now → w (head last_updated_epoch) ≡ now
+  unfolding up_to_date
+  dated_says e = go (eqb (w (head last_updated_epoch)) now) refl e
+    where
+      go : (b : Bool) → eqb (w (head last_updated_epoch)) now ≡ b
+          → ◌≡◌ {A = Outcome (Unit {0})} (accepted tt) (if b then accepted tt else refused outdated_publisher_accounting) → w (head last_updated_epoch) ≡ now
+      go true h e = eqb-true _ _ h
+      go false h e = absurd (let z : ◌≡◌ {A = ℕ} 0 1 = cc in omega arith)
+
+  pub outdated_says : (k : ℕ) → refused k ≡ dated w now → (w (head last_updated_epoch) ≡ now → ⊥) × (k ≡ outdated_publisher_accounting)
+  unfolding up_to_date
+  outdated_says k e = go (eqb (w (head last_updated_epoch)) now) refl e
+    where
+      go : (b : Bool) → eqb (w (head last_updated_epoch)) now ≡ b
+          → ◌≡◌ {A = Outcome (Unit {0})} (refused k) (if b then accepted tt else refused outdated_publisher_accounting)
+          → (w (head last_updated_epoch) ≡ now → ⊥) × (k ≡ outdated_publisher_accounting)
+      go true h e = absurd (let z : ◌≡◌ {A = ℕ} 0 1 = cc in omega arith)
+      go false h e = (eqb-false _ _ h, cc)
+
+module _ (P : ℕ) (w : Words) (d : Delegation) where
+  -- there is none; it is there, but the pool has not been advanced; it is there
+  pub seat_missing : (k : ℕ) → refused k ≡ publisher_index_of P w d.publisher → refused k ≡ delegation_seat P w d
   unfolding delegation_seat
-  seat_missing k e = rw (sym e)
+  seat_missing k e = rw (sym e) refl
 
-  pub seat_outdated : (s : ℕ) → accepted s ≡ publisher_index_of P (read P E img) d.publisher → (get_or img 0 0 ≡ d.current_epoch → ⊥)
-      → refused outdated_publisher_accounting ≡ delegation_seat P (read P E img) d
-  unfolding delegation_seat up_to_date read
-  seat_outdated s e n = rw (sym e, ne_eqb _ _ n)
+  pub seat_outdated : (s k : ℕ) → accepted s ≡ publisher_index_of P w d.publisher → refused k ≡ dated w d.current_epoch → refused k ≡ delegation_seat P w d
+  unfolding delegation_seat
+  seat_outdated s k e q = rw (sym e) (go (up_to_date w d.current_epoch) q)
+    where
+      go : (b : Bool) → ◌≡◌ {A = Outcome (Unit {0})} (refused k) (if b then accepted tt else refused outdated_publisher_accounting)
+          → ◌≡◌ {A = Outcome ℕ} (refused k) (if b then accepted s else refused outdated_publisher_accounting)
+      go true h = absurd (let z : ◌≡◌ {A = ℕ} 0 1 = cc in omega arith)
+      go false h = let z : k ≡ outdated_publisher_accounting = cc in ap refused z
 
-  pub seat_found : (s : ℕ) → accepted s ≡ publisher_index_of P (read P E img) d.publisher → get_or img 0 0 ≡ d.current_epoch
-      → accepted s ≡ delegation_seat P (read P E img) d
-  unfolding delegation_seat up_to_date read
-  seat_found s e q = rw (sym e, eq-eqb _ _ q)
+  pub seat_found : (s : ℕ) → accepted s ≡ publisher_index_of P w d.publisher → accepted tt ≡ dated w d.current_epoch → accepted s ≡ delegation_seat P w d
+  unfolding delegation_seat
+  seat_found s e q = rw (sym e) (go (up_to_date w d.current_epoch) q)
+    where
+      go : (b : Bool) → ◌≡◌ {A = Outcome (Unit {0})} (accepted tt) (if b then accepted tt else refused outdated_publisher_accounting)
+          → ◌≡◌ {A = Outcome ℕ} (accepted s) (if b then accepted s else refused outdated_publisher_accounting)
+      go true h = refl
+      go false h = absurd (let z : ◌≡◌ {A = ℕ} 0 1 = cc in omega arith)
 
   -- of a slash
-  pub slash_outdated : (get_or img 0 0 ≡ d.current_epoch → ⊥) → refused outdated_publisher_accounting ≡ slash_seat P (read P E img) d
-  unfolding slash_seat up_to_date read
-  slash_outdated n = rw (ne_eqb _ _ n)
+  pub slash_outdated : (k : ℕ) → refused k ≡ dated w d.current_epoch → refused k ≡ slash_seat P w d
+  unfolding slash_seat
+  slash_outdated k q = go (up_to_date w d.current_epoch) q
+    where
+      go : (b : Bool) → ◌≡◌ {A = Outcome (Unit {0})} (refused k) (if b then accepted tt else refused outdated_publisher_accounting)
+          → refused k ≡ (if b then publisher_index_of P w d.publisher else refused outdated_publisher_accounting)
+      go true h = absurd (let z : ◌≡◌ {A = ℕ} 0 1 = cc in omega arith)
+      go false h = let z : k ≡ outdated_publisher_accounting = cc in ap refused z
 
-  pub slash_looked_up : (o : Outcome ℕ) → get_or img 0 0 ≡ d.current_epoch → o ≡ publisher_index_of P (read P E img) d.publisher → o ≡ slash_seat P (read P E img) d
-  unfolding slash_seat up_to_date read
-  slash_looked_up o q e = rw (eq-eqb _ _ q) e
+  pub slash_looked_up : (o : Outcome ℕ) → accepted tt ≡ dated w d.current_epoch → o ≡ publisher_index_of P w d.publisher → o ≡ slash_seat P w d
+  unfolding slash_seat
+  slash_looked_up o q e = go (up_to_date w d.current_epoch) q
+    where
+      go : (b : Bool) → ◌≡◌ {A = Outcome (Unit {0})} (accepted tt) (if b then accepted tt else refused outdated_publisher_accounting)
+          → o ≡ (if b then publisher_index_of P w d.publisher else refused outdated_publisher_accounting)
+      go true h = e
+      go false h = absurd (let z : ◌≡◌ {A = ℕ} 0 1 = cc in omega arith)
 
-  -- a seat that is found is one of the pool's
-  pub seat_lt : (s : ℕ) → delegation_seat P (read P E img) d ≡ accepted s → s < P
+  -- it is one of the pool's
+  pub seat_lt : (s : ℕ) → delegation_seat P w d ≡ accepted s → s < P
   unfolding delegation_seat
   seat_lt s e =
-      let t = then_accepts _ (publisher_index_of P (read P E img) d.publisher) s e in
-      let q : t.0 ≡ s = cc (if_accepted (up_to_date (read P E img) d.current_epoch) _ _ s t.1.1) in
-      index_lt P (read P E img) d.publisher s (t.1.0 ∙ ap accepted q)
+      let t = then_accepts _ (publisher_index_of P w d.publisher) s e in
+      index_lt P w d.publisher s (t.1.0 ∙ ap accepted (go (up_to_date w d.current_epoch) t.0 t.1.1))
+    where
+      go : (b : Bool) (q : ℕ) → ◌≡◌ {A = Outcome ℕ} (if b then accepted q else refused outdated_publisher_accounting) (accepted s) → q ≡ s
+      go true q h = cc
+      go false q h = absurd (let z : ◌≡◌ {A = ℕ} 0 1 = cc in omega arith)
 
-  pub slash_seat_lt : (s : ℕ) → slash_seat P (read P E img) d ≡ accepted s → s < P
+  pub slash_seat_lt : (s : ℕ) → slash_seat P w d ≡ accepted s → s < P
   unfolding slash_seat
-  slash_seat_lt s e = index_lt P (read P E img) d.publisher s (if_accepted (up_to_date (read P E img) d.current_epoch) _ _ s e)
+  slash_seat_lt s e = index_lt P w d.publisher s (go (up_to_date w d.current_epoch) _ e)
+    where
+      go : (b : Bool) (o : Outcome ℕ) → (if b then o else refused outdated_publisher_accounting) ≡ accepted s → o ≡ accepted s
+      go true o h = h
+      go false o h = absurd (let z : ◌≡◌ {A = ℕ} 0 1 = cc in omega arith)
 
--- ---- a side that is written, or not
+-- ---- the call as a whole, from the seat on
 
-module _ (P E : ℕ) (img : List ℕ) where
-  module _ (s : ℕ) (x : Whose) (o : Outcome Side) where
-    pub side_refused : (k : ℕ) → o ≡ refused k → (refused k ≡ acceptance (map_outcome (side s x) o)) × (img ≡ changed_image P E img (map_outcome (side s x) o))
-    side_refused k e = rw e (sym (refused_answers k), sym (refused_leaves P E img k))
+-- the pool as it is read
+pub record Reads (pool : PoolDataMut) (found : PoolData) : Type 0 where
+  pub words : found.words.now ≡ pool.words.now
+  pub p : found.p ≡ pool.p
+  pub e : found.e ≡ pool.e
 
-    pub side_becomes : (v : DelegationState) → o ≡ accepted (side_of v) → (l : List ℕ) → l ≡ image P E (with_side (read P E img) s x v)
-        → (accepted tt ≡ acceptance (map_outcome (side s x) o)) × (l ≡ changed_image P E img (map_outcome (side s x) o))
-    unfolding changed_image acceptance
-    side_becomes v e l q = rw e (refl, q)
+pub reads_words : (pool : PoolDataMut) (found : PoolData) → Reads pool found → words_of found ≡ words_in pool
+reads_words pool found h = rw (h.words, h.p, h.e) refl
 
-  -- the side that the account's stake stands on was read, and what it becomes was written
-  module _ (d : Delegation) (f : ℕ → ℕ → Outcome Side) (s : ℕ) (b : Bool) (mine : b ≡ self_side (read P E img) s d.stake_account_positions)
-      (v : DelegationState) (found : v ≡ side_at (read P E img) s (whose b)) (o : Outcome Side) (becomes : o ≡ f v.total_delegation.0 v.delta_delegation)
-      (answer : Outcome (Unit {0})) (l : List ℕ) where
-    change_is_law : map_outcome (side s (whose b)) o ≡ side_change (read P E img) d f s
-    unfolding side_change account_side
-    change_is_law = rw (sym mine, becomes, found)
+module _ (pool : PoolDataMut) where
+  -- nothing is written
+  pub not_changed : (o : Outcome Change) (x : Refusal) (r : Result (Unit {0}) Refusal) → refused (number_of x) ≡ o → r ≡ Err x → ChangesAs pool pool o r
+  not_changed o x r e q = record {
+    answer = ap outcome_of q ∙ (sym (refused_answers (number_of x)) ∙ ap acceptance e);
+    same_loan = refl;
+    p = refl;
+    e = refl;
+    image = sym (refused_leaves pool.p pool.e pool.words.now (number_of x)) ∙ ap (changed_image pool.p pool.e pool.words.now) e;
+  }
 
-    pub side_changes : (answer ≡ acceptance (map_outcome (side s (whose b)) o)) × (l ≡ changed_image P E img (map_outcome (side s (whose b)) o))
-        → (answer ≡ acceptance (side_change (read P E img) d f s)) × (l ≡ changed_image P E img (side_change (read P E img) d f s))
-    side_changes h = (h.0 ∙ ap acceptance change_is_law, h.1 ∙ ap (changed_image P E img) change_is_law)
+  pub no_seat : (o : Outcome ℕ) (f : ℕ → Outcome Change) (x : Refusal) (r : Result (Unit {0}) Refusal) → refused (number_of x) ≡ o → r ≡ Err x
+      → ChangesAs pool pool (and_then o f) r
+  no_seat o f x r e q = not_changed (and_then o f) x r (ap (λ (y : Outcome ℕ). and_then y f) e) q
 
-  -- ---- the call as a whole, from the seat on
+  module _ (found : PoolData) (reads : Reads pool found) (o : Outcome ℕ) (d : Delegation) (f : ℕ → ℕ → Outcome Side) where
+    abbrev call : Outcome Change
+    call = and_then o (side_change (words_in pool) d f)
 
-  module _ (o : Outcome ℕ) (f : ℕ → Outcome Change) where
-    pub no_seat : (k : ℕ) → refused k ≡ o → (refused k ≡ acceptance (and_then o f)) × (img ≡ changed_image P E img (and_then o f))
-    no_seat k e = rw (sym e) (sym (refused_answers k), sym (refused_leaves P E img k))
+    -- the side that the account's stake stands on was read
+    module _ (s : ℕ) (at : accepted s ≡ o) (b : Bool) (mine : b ≡ self_side (words_of found) s d.stake_account_positions)
+        (v : DelegationState) (side_is : v ≡ side_at (words_of found) s (whose b)) where
+      call_is : map_outcome (side s (whose b)) (f v.total_delegation.0 v.delta_delegation) ≡ call
+      unfolding side_change account_side
+      call_is = rw (sym at, side_is, mine, reads_words pool found reads) refl
 
-    pub at_seat : (s : ℕ) → accepted s ≡ o → (answer : Outcome (Unit {0})) (l : List ℕ) → (answer ≡ acceptance (f s)) × (l ≡ changed_image P E img (f s))
-        → (answer ≡ acceptance (and_then o f)) × (l ≡ changed_image P E img (and_then o f))
-    at_seat s e answer l h = rw (sym e) h
+      pub side_stays : (x : Refusal) (r : Result (Unit {0}) Refusal) → refused (number_of x) ≡ f v.total_delegation.0 v.delta_delegation → r ≡ Err x
+          → ChangesAs pool pool call r
+      side_stays x r e q = not_changed call x r (ap (map_outcome (side s (whose b))) e ∙ call_is) q
+
+      pub side_changes : (u : DelegationState) (new : PoolDataMut) → accepted (side_of u) ≡ f v.total_delegation.0 v.delta_delegation
+          → Becomes pool new (with_side (words_in pool) s (whose b) u) → ChangesAs pool new call (Ok tt)
+      unfolding changed_image acceptance
+      side_changes u new e h =
+          let c : accepted (side s (whose b) (side_of u)) ≡ call = ap (map_outcome (side s (whose b))) e ∙ call_is in
+          record { answer = ap acceptance c; same_loan = h.same_loan; p = h.p; e = h.e; image = h.words ∙ ap (changed_image pool.p pool.e pool.words.now) c }

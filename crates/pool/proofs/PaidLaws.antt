@@ -1,15 +1,15 @@
 -- What is earned, and so what a payment pays: the parts add up to the totals of the slots, and those of gathered amounts fit a word together. Assumes nothing.
-use mathlib.Core.Path.{◌≡◌, refl, ap, ◌∙◌}
+use mathlib.Core.Path.{◌≡◌, refl, sym, ap, ◌∙◌}
 use mathlib.Core.Bool.{Bool, true, false, not}
 use mathlib.Core.List.{List}
 use Prim.Native.Nat.{ℕ, zero, suc, ◌+◌, ◌<◌}
 use native.Mathlib.Omega.{arith}
 use lib.Dec.{leb}
 use borrow.Author.Tests.{leb-false, not-false}
-use Rattle.std.specs.Prelude.{if◌then◌else◌}
+use Rattle.std.specs.Prelude.{if◌then◌else◌, Option, Some, None}
 use Rattle.types.specs.Base.{word, Outcome, refused, accepted, is_accepted, sum_below, all_below}
 use Rattle.types.proofs.Below.{all_at}
-use Rattle.types.proofs.OutcomeLaws.{test_passed, map_accepted}
+use Rattle.types.proofs.OutcomeLaws.{test_passed, map_accepted, not_accepted}
 use Rattle.positions.specs.declared.Key.{Key}
 use Rattle.event.specs.Event.{Parts, rate_of, total_of}
 use Rattle.event.proofs.EventLaws.{event_adds}
@@ -49,12 +49,12 @@ sum_adds f n p e =
 -- ---- what is earned
 
 -- of gathered amounts: both parts together fit
-pub reward_fits : (E : ℕ) (w : Words) (s : ℕ) (g : EventAmounts) (self_side : Bool) (r : Earned) → reward_of E w s g self_side ≡ accepted r
+pub reward_fits : (E : ℕ) (w : Words) (s : ℕ) (g : Option EventAmounts) (self_side : Bool) (r : Earned) → reward_of E w s g self_side ≡ accepted r
     → r.delegator + r.publisher < word
 unfolding reward_of
-reward_fits E w s g self_side r e =
-    let t = test_passed (not g.fits) _ _ r e in
-    let m = map_accepted (earned_with g.reads) _ r t.1 in
+reward_fits E w s None self_side r e = absurd (not_accepted r _ (sym e))
+reward_fits E w s (Some g) self_side r e =
+    let m = map_accepted (earned_with g.reads) _ r e in
     let a = sum_adds _ _ m.0 m.1.0 in
     rw m.1.1 (omega (arith, a.delegator, a.publisher, a.fits))
 

@@ -2,20 +2,19 @@
 use mathlib.Core.Path.{◌≡◌, refl, sym, ap, ◌∙◌}
 use mathlib.Core.Bool.{Bool, true, false, not}
 use mathlib.Core.List.{List}
-use Prim.Native.Nat.{ℕ, ◌+◌, ◌*◌, ◌≤◌, ◌<◌}
+use Prim.Native.Nat.{ℕ, ◌+◌, ◌≤◌, ◌<◌}
 use native.Mathlib.Omega.{arith}
 use lib.Dec.{leb}
 use lib.ListN.{get_or}
 use borrow.Author.Tests.{le-leb, lt-leb}
-use Rattle.std.specs.Prelude.{if◌then◌else◌}
+use Rattle.std.specs.Prelude.{if◌then◌else◌, Option, Some, None}
 use Rattle.types.specs.Base.{word, Outcome, refused, accepted, map_outcome, is_accepted, sum_below, all_below}
 use Rattle.types.specs.Refusals.{does_not_fit}
 use Rattle.types.proofs.Below.{sum_none, sum_more, sum_same, sum_grows, all_none, all_more, all_not, all_same}
 use Rattle.positions.specs.declared.Key.{Key}
-use Rattle.event.specs.declared.event.Event.{Event}
 use Rattle.event.specs.Event.{Parts, event_reward}
-use Rattle.image.specs.Layout.{self, other, event_y, reward_ratio, event_fee, slot, share, Words, event_at, read}
-use Rattle.image.proofs.SeatLaws.{read_at}
+use Rattle.event.proofs.EventLaws.{event_refused}
+use Rattle.image.specs.Layout.{Words}
 use Rattle.event_walk.specs.Walk.{walk_length, walk_slot, slot_amount, reads_of}
 use Rattle.event_walk.specs.declared.EventAmounts.{EventAmounts}
 use Rattle.event_amounts.specs.Gathered.{GatheredOf}
@@ -23,40 +22,14 @@ use Rattle.pool.specs.Reward.{event_of, slot_reward, delegator_in, publisher_in,
 
 -- ---- an event
 
--- y, the two ratios and the fee
-abbrev event_from : (y self_ratio other_ratio fee : ℕ) → Event
-event_from y self_ratio other_ratio fee = record {
-  y = record { 0 = y };
-  event_data = record {
-    self_reward_ratio = record { 0 = self_ratio };
-    other_reward_ratio = record { 0 = other_ratio };
-    delegation_fee = record { 0 = fee };
-  };
-}
-
-event_words : (a b c d a' b' c' d' : ℕ) → a ≡ a' → b ≡ b' → c ≡ c' → d ≡ d'
-    → event_from a b c d ≡ event_from a' b' c' d'
-event_words a b c d a' b' c' d' p q r s = cc
-
--- `at` is where the event begins
-pub event_is : (P E : ℕ) (img : List ℕ) (t s at : ℕ) → at ≡ event_at P t
-    → event_from (get_or img (at + 1) 0) (get_or img (at + 9 + s * 3) 0) (get_or img (at + 9 + s * 3 + 1) 0) (get_or img (at + 9 + s * 3 + 2) 0)
-    ≡ event_of (read P E img) t s
-event_is P E img t s at q =
-    event_words _ _ _ _ _ _ _ _
-    (read_at P E img (slot t event_y) (at + 1) (omega arith))
-    (read_at P E img (share t s (reward_ratio self)) (at + 9 + s * 3) (omega arith))
-    (read_at P E img (share t s (reward_ratio other)) (at + 9 + s * 3 + 1) (omega arith))
-    (read_at P E img (share t s event_fee) (at + 9 + s * 3 + 2) (omega arith))
-
--- an event that was read, and the slot that it was read from
-pub event_earns : (e e' : Event) (a : ℕ) (self_side : Bool) (o : Outcome Parts) → o ≡ event_reward e a self_side → e ≡ e' → o ≡ event_reward e' a self_side
-event_earns e e' a self_side o q r = q ∙ ap (λ (x : Event). event_reward x a self_side) r
-
 pub slot_earns : (E : ℕ) (w : Words) (s : ℕ) (self_side : Bool) (amount : ℕ → ℕ) (k t : ℕ) (o : Outcome Parts)
     → t ≡ walk_slot E w k → o ≡ event_reward (event_of w t s) (amount k) self_side → slot_reward E w s self_side amount k ≡ o
 unfolding slot_reward
 slot_earns E w s self_side amount k t o q r = ap (λ (x : ℕ). event_reward (event_of w x s) (amount k) self_side) (sym q) ∙ sym r
+
+pub slot_refused : (E : ℕ) (w : Words) (s : ℕ) (self_side : Bool) (amount : ℕ → ℕ) (k m : ℕ) → slot_reward E w s self_side amount k ≡ refused m → m ≡ does_not_fit
+unfolding slot_reward
+slot_refused E w s self_side amount k m e = event_refused _ _ _ _ e
 
 -- ---- the sum over the slots
 
@@ -125,28 +98,20 @@ reward_sum_same f g n h =
 
 -- ---- the gathered amounts
 
-module _ (E : ℕ) (w : Words) (s : ℕ) (self_side : Bool) (g : EventAmounts) where
-  pub reward_13 : g.fits ≡ false → refused does_not_fit ≡ reward_of E w s g self_side
+module _ (E : ℕ) (w : Words) (s : ℕ) (self_side : Bool) where
+  pub reward_sums : (g : EventAmounts) (o : Outcome Parts) → o ≡ reward_sum (walk_length E w) (slot_reward E w s self_side (λ (k : ℕ). get_or g.amounts k 0))
+      → map_outcome (earned_with g.reads) o ≡ reward_of E w s (Some g) self_side
   unfolding reward_of
-  reward_13 h = rw h
-
-  pub reward_sums : g.fits ≡ true → (o : Outcome Parts)
-      → o ≡ reward_sum (walk_length E w) (slot_reward E w s self_side (λ (k : ℕ). get_or g.amounts k 0))
-      → map_outcome (earned_with g.reads) o ≡ reward_of E w s g self_side
-  unfolding reward_of
-  reward_sums h o q = rw h (ap (map_outcome (earned_with g.reads)) q)
+  reward_sums g o q = ap (map_outcome (earned_with g.reads)) q
 
   -- amounts that an account's positions gather earn what the positions do
-  pub reward_gathered : (words : List ℕ) (publisher : Key) (from unlocking : ℕ) → GatheredOf E w words publisher from unlocking g
+  pub reward_gathered : (g : Option EventAmounts) (words : List ℕ) (publisher : Key) (from unlocking : ℕ) → GatheredOf E w words publisher from unlocking g
       → reward_of E w s g self_side ≡ calculate_reward E w s words publisher from unlocking self_side
   unfolding reward_of calculate_reward slot_reward
-  reward_gathered words publisher from unlocking gathered = go g.fits refl
-    where
-      go : (t : Bool) → g.fits ≡ t → reward_of E w s g self_side ≡ calculate_reward E w s words publisher from unlocking self_side
-      go false h = rw (h, sym gathered.fits ∙ h)
-      go true h =
-          let same = reward_sum_same
-          (slot_reward E w s self_side (λ (k : ℕ). get_or g.amounts k 0)) (slot_reward E w s self_side (slot_amount E w words publisher from unlocking))
-          (walk_length E w)
-          (λ k l. ap (λ (a : ℕ). event_reward (event_of w (walk_slot E w k) s) a self_side) (gathered.amounts h k)) in
-          rw (h, sym gathered.fits ∙ h, gathered.reads h) (ap (map_outcome (earned_with (reads_of E w words publisher from))) same)
+  reward_gathered None words publisher from unlocking unfit = rw unfit refl
+  reward_gathered (Some g) words publisher from unlocking gathered =
+      let same = reward_sum_same
+      (slot_reward E w s self_side (λ (k : ℕ). get_or g.amounts k 0)) (slot_reward E w s self_side (slot_amount E w words publisher from unlocking))
+      (walk_length E w)
+      (λ k l. ap (λ (a : ℕ). event_reward (event_of w (walk_slot E w k) s) a self_side) (gathered.amounts k)) in
+      rw (gathered.fits, gathered.reads) (ap (map_outcome (earned_with (reads_of E w words publisher from))) same)

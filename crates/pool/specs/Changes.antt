@@ -1,25 +1,25 @@
 -- Item 9 of document 01: add, remove and a slash that applies, over the image's words by name. Assumes nothing.
-use Rattle.std.specs.Prelude.{Bool, ℕ, eqb, if◌then◌else◌}
-use Rattle.types.specs.Base.{Outcome, refused, accepted, map_outcome, and_then}
+use Rattle.std.specs.Prelude.{◌≡◌, Bool, ℕ, eqb, if◌then◌else◌, Result}
+use Rattle.types.specs.Base.{Outcome, refused, accepted, map_outcome, and_then, outcome_of}
 use Rattle.types.specs.Refusals.{outdated_publisher_accounting}
-use Rattle.positions.specs.declared.Key.{Key}
+use Rattle.types.specs.declared.refusals.Refusal.{Refusal}
 use Rattle.positions.specs.declared.position.PositionState.{PositionState}
 use Rattle.delegation.specs.Side.{Side, add_of, remove_of, slash_of}
 use Rattle.image.specs.Layout.{Whose, last_updated_epoch, total_delegation, delta_delegation, head, seat, Words}
 use Rattle.image.specs.Seats.{publisher_index_of}
-use Rattle.image.specs.Changes.{self_side, whose, Change, side}
+use Rattle.image.specs.declared.pool_data.PoolDataMut.{PoolDataMut}
+use Rattle.image.specs.Changes.{self_side, whose, Change, side, changed_image, acceptance}
 -- publisher, stake_account_positions (the account), current_epoch
 use Rattle.pool.specs.declared.changes.Delegation.{Delegation}
-use Rattle.pool.specs.declared.changes.SeatAnswer.{SeatAnswer}
-use Rattle.pool.specs.declared.changes.SeatAnswer.TheVariants as seat-answer
-use Rattle.pool.specs.declared.changes.ChangeAnswer.{ChangeAnswer}
-use Rattle.pool.specs.declared.changes.ChangeAnswer.TheVariants as change
 
 -- ---- the publisher's seat
 
 -- 12: the pool has not been advanced to the current epoch
 unfoldable pub up_to_date : Words → (now : ℕ) → Bool
 up_to_date w now = eqb (w (head last_updated_epoch)) now
+
+abbrev pub dated : Words → (now : ℕ) → Outcome (Unit {0})
+dated w now = if up_to_date w now then accepted tt else refused outdated_publisher_accounting
 
 -- of add and remove: 10, 11, 12
 unfoldable pub delegation_seat : (P : ℕ) → Words → Delegation → Outcome ℕ
@@ -30,10 +30,6 @@ delegation_seat P w d =
 -- of a slash: 12, 10, 11
 unfoldable pub slash_seat : (P : ℕ) → Words → Delegation → Outcome ℕ
 slash_seat P w d = if up_to_date w d.current_epoch then publisher_index_of P w d.publisher else refused outdated_publisher_accounting
-
-abbrev pub seat_is : SeatAnswer → Outcome ℕ
-seat_is (seat-answer.At s) = accepted s
-seat_is (seat-answer.Refused k) = refused k
 
 -- ---- what becomes of the account's side
 
@@ -58,6 +54,10 @@ remove_delegation P w d amount state = and_then (delegation_seat P w d) (side_ch
 unfoldable pub apply_slash : (P : ℕ) → Words → Delegation → (locked preunlocking : ℕ) → Outcome Change
 apply_slash P w d locked preunlocking = and_then (slash_seat P w d) (side_change w d (λ total change. slash_of total change locked preunlocking))
 
-abbrev pub change_is : ChangeAnswer → Outcome (Unit {0})
-change_is change.Done = accepted tt
-change_is (change.Refused k) = refused k
+-- a pool that is written is changed as the outcome says, and the answer is the outcome's; it stays the one that was lent
+pub record ChangesAs (old new : PoolDataMut) (o : Outcome Change) (r : Result (Unit {0}) Refusal) : Type 0 where
+  pub answer : outcome_of r ≡ acceptance o
+  pub same_loan : new.words.ghost_name ≡ old.words.ghost_name
+  pub p : new.p ≡ old.p
+  pub e : new.e ≡ old.e
+  pub image : new.words.now ≡ changed_image old.p old.e old.words.now o

@@ -1,5 +1,5 @@
 -- Item 8 of document 01: what an account's positions have earned, over the image's words by name. Assumes nothing.
-use Rattle.std.specs.Prelude.{Bool, not, List, ℕ, ◌+◌, leb, get_or, if◌then◌else◌}
+use Rattle.std.specs.Prelude.{Bool, not, List, ℕ, ◌+◌, leb, get_or, if◌then◌else◌, Option, Some, None}
 use Rattle.types.specs.Base.{word, Outcome, refused, accepted, map_outcome, is_accepted, sum_below, all_below}
 use Rattle.types.specs.Refusals.{does_not_fit}
 use Rattle.positions.specs.declared.Key.{Key}
@@ -8,8 +8,6 @@ use Rattle.event.specs.Event.{Parts, event_reward}
 use Rattle.image.specs.Layout.{self, other, event_y, reward_ratio, event_fee, slot, share, Words}
 use Rattle.event_walk.specs.declared.EventAmounts.{EventAmounts}
 use Rattle.event_walk.specs.Walk.{walk_length, walk_slot, slot_amount, gather_fits, reads_of}
-use Rattle.pool.specs.declared.reward.Calculated.{Calculated}
-use Rattle.pool.specs.declared.reward.Calculated.TheVariants as calculated
 use Rattle.pool.specs.declared.reward.Rewards.{Rewards}
 
 -- the event in ring slot t as the stakers of the publisher at seat s see it
@@ -58,15 +56,11 @@ calculate_reward E w s words publisher from unlocking self_side =
     else map_outcome (earned_with (reads_of E w words publisher from))
     (reward_sum (walk_length E w) (slot_reward E w s self_side (slot_amount E w words publisher from unlocking)))
 
--- the same, of amounts that have been gathered
-unfoldable pub reward_of : (E : ℕ) → Words → (s : ℕ) → EventAmounts → (self_side : Bool) → Outcome Earned
-reward_of E w s g self_side =
-    if not g.fits then refused does_not_fit
-    else map_outcome (earned_with g.reads) (reward_sum (walk_length E w) (slot_reward E w s self_side (λ k. get_or g.amounts k 0)))
+-- the same, of amounts that have been gathered, or do not fit
+unfoldable pub reward_of : (E : ℕ) → Words → (s : ℕ) → Option EventAmounts → (self_side : Bool) → Outcome Earned
+reward_of E w s None self_side = refused does_not_fit
+reward_of E w s (Some g) self_side =
+    map_outcome (earned_with g.reads) (reward_sum (walk_length E w) (slot_reward E w s self_side (λ k. get_or g.amounts k 0)))
 
-abbrev pub earned_is : Rewards → Earned
-earned_is r = record { delegator = r.delegator_reward.0; publisher = r.publisher_reward.0; reads = r.reads }
-
-abbrev pub calculated_is : Calculated → Outcome Earned
-calculated_is (calculated.Earned r) = accepted (earned_is r)
-calculated_is calculated.DoesNotFit = refused does_not_fit
+abbrev pub earned_as : Rewards → Earned
+earned_as r = record { delegator = r.delegator_reward.0; publisher = r.publisher_reward.0; reads = r.reads }

@@ -1,25 +1,17 @@
 // Item 9: add, remove and a slash that applies, on a checked image.
-ghost use Rattle.std.specs.Prelude.{◌≡◌, ◌<◌};
-ghost use Rattle.types.specs.Base.{map_outcome};
-ghost use Rattle.delegation.specs.Side.{add_of, remove_of, slash_of, changed_is, removed_is};
-ghost use Rattle.image.specs.Layout.{read};
-ghost use Rattle.image.specs.Seats.{Sized};
-ghost use Rattle.image.specs.Changes.{whose, side, changed_image, acceptance};
-ghost use Rattle.pool.specs.Changes.{delegation_seat, slash_seat, seat_is, side_change, add_delegation, remove_delegation, apply_slash, change_is};
+ghost use Rattle.std.specs.Prelude.{◌≡◌};
+ghost use Rattle.types.specs.Base.{outcome_of};
+ghost use Rattle.image.specs.Pool.{words_of, words_in};
+ghost use Rattle.pool.specs.Changes.{ChangesAs, dated, delegation_seat, slash_seat, add_delegation, remove_delegation, apply_slash};
 
-use delegation::{Changed, Removed};
-use image::changes::{is_self_side, set_side, side};
-use image::seats::{PublisherIndex, get_publisher_index};
+use image::pool_data::{PoolData, PoolDataMut};
 use positions::Key;
 use positions::position::PositionState;
 use types::Amount;
-use types::refusals::{
-    DOES_NOT_FIT, INVALID_PUBLISHER, OUTDATED_PUBLISHER_ACCOUNTING, PUBLISHER_NOT_FOUND,
-    UNEXPECTED_POSITION_STATE,
-};
+use types::refusals::Refusal;
 
 // Whose stake with which publisher changes, and when.
-#[derive(Clone, Copy)]
+#[derive(Clone, Copy, Debug, PartialEq, Eq)]
 pub struct Delegation {
     pub publisher: Key,
     // The account whose stake changes.
@@ -27,217 +19,82 @@ pub struct Delegation {
     pub current_epoch: u64,
 }
 
-// The answer of a call that has no values.
-#[derive(Drop)]
-pub enum ChangeAnswer {
-    Done,
-    Refused(u64),
-}
-
-// The publisher's seat, or why there is none.
-#[derive(Drop)]
-enum SeatAnswer {
-    At(usize),
-    Refused(u64),
+// 12 where the pool has not been advanced to the epoch.
+#[tactic(auto, using(crate::proofs::ChangeLaws::is_dated, crate::proofs::ChangeLaws::not_dated))]
+pub fn up_to_date(pool: PoolData<'_>, current_epoch: u64) -> Result<(), Refusal>
+    ensures { outcome_of result ≡ dated (words_of pool.entry) current_epoch }
+{
+    if pool.last_updated_epoch() != current_epoch {
+        return Err(Refusal::OutdatedPublisherAccounting);
+    }
+    Ok(())
 }
 
 // The seat for an add or a remove: 10, 11, then 12.
-fn delegation_seat(pool: &[u64], p: usize, e: usize, delegation: Delegation) -> SeatAnswer
-    requires { Sized pool.now p e }
-    ensures { seat_is result ≡ delegation_seat p (read p e pool.now) delegation }
+fn delegation_seat(pool: PoolData<'_>, delegation: &Delegation) -> Result<usize, Refusal>
+    ensures { outcome_of result ≡ delegation_seat pool.entry.p (words_of pool.entry) delegation.now }
 {
-    let publisher = delegation.publisher;
-    let index = get_publisher_index(pool, p, e, publisher);
-    match index {
-        PublisherIndex::InvalidPublisher => SeatAnswer::Refused(INVALID_PUBLISHER),
-        PublisherIndex::PublisherNotFound => SeatAnswer::Refused(PUBLISHER_NOT_FOUND),
-        PublisherIndex::Index(s) => {
-            if pool[0] != delegation.current_epoch {
-                return SeatAnswer::Refused(OUTDATED_PUBLISHER_ACCOUNTING);
-            }
-            SeatAnswer::At(s)
-        }
-    }
+    let s = pool.get_publisher_index(delegation.publisher)?;
+    up_to_date(pool, delegation.current_epoch)?;
+    Ok(s)
 }
 
 // The seat for a slash: 12, then 10, 11.
-fn slash_seat(pool: &[u64], p: usize, e: usize, delegation: Delegation) -> SeatAnswer
-    requires { Sized pool.now p e }
-    ensures { seat_is result ≡ slash_seat p (read p e pool.now) delegation }
+fn slash_seat(pool: PoolData<'_>, delegation: &Delegation) -> Result<usize, Refusal>
+    ensures { outcome_of result ≡ slash_seat pool.entry.p (words_of pool.entry) delegation.now }
 {
-    if pool[0] != delegation.current_epoch {
-        return SeatAnswer::Refused(OUTDATED_PUBLISHER_ACCOUNTING);
-    }
-    let publisher = delegation.publisher;
-    let index = get_publisher_index(pool, p, e, publisher);
-    match index {
-        PublisherIndex::InvalidPublisher => SeatAnswer::Refused(INVALID_PUBLISHER),
-        PublisherIndex::PublisherNotFound => SeatAnswer::Refused(PUBLISHER_NOT_FOUND),
-        PublisherIndex::Index(s) => SeatAnswer::At(s),
-    }
+    up_to_date(pool, delegation.current_epoch)?;
+    pool.get_publisher_index(delegation.publisher)
 }
 
-// A side of seat s is written, where it fits.
-fn write_changed(
-    pool: &mut [u64],
-    p: usize,
-    e: usize,
-    s: usize,
-    is_self: bool,
-    becomes: Changed,
-) -> ChangeAnswer
-    requires { Sized pool.old p e × (s < p) }
-    ensures { (change_is result ≡ acceptance (map_outcome (side s (whose is_self)) (changed_is becomes))) × (pool.new ≡ changed_image p e pool.old (map_outcome (side s (whose is_self)) (changed_is becomes))) }
-{
-    match becomes {
-        Changed::DoesNotFit => ChangeAnswer::Refused(DOES_NOT_FIT),
-        Changed::Into(into) => {
-            set_side(pool, p, e, s, is_self, into);
-            ChangeAnswer::Done
-        }
-    }
-}
-
-// The same for what a remove comes to.
-fn write_removed(
-    pool: &mut [u64],
-    p: usize,
-    e: usize,
-    s: usize,
-    is_self: bool,
-    becomes: Removed,
-) -> ChangeAnswer
-    requires { Sized pool.old p e × (s < p) }
-    ensures { (change_is result ≡ acceptance (map_outcome (side s (whose is_self)) (removed_is becomes))) × (pool.new ≡ changed_image p e pool.old (map_outcome (side s (whose is_self)) (removed_is becomes))) }
-{
-    match becomes {
-        Removed::DoesNotFit => ChangeAnswer::Refused(DOES_NOT_FIT),
-        Removed::UnexpectedPositionState => ChangeAnswer::Refused(UNEXPECTED_POSITION_STATE),
-        Removed::Into(into) => {
-            set_side(pool, p, e, s, is_self, into);
-            ChangeAnswer::Done
-        }
-    }
-}
-
-// The amount joins the change of the account's side at seat s.
-fn add_at(
-    pool: &mut [u64],
-    p: usize,
-    e: usize,
-    s: usize,
-    delegation: Delegation,
+// The amount joins the change of the account's side.
+pub fn add_delegation(
+    pool: &mut PoolDataMut<'_>,
+    delegation: &Delegation,
     amount: Amount,
-) -> ChangeAnswer
-    requires { Sized pool.old p e × (s < p) }
-    ensures { (change_is result ≡ acceptance (side_change (read p e pool.old) delegation (λ total change. add_of total change amount.0) s)) × (pool.new ≡ changed_image p e pool.old (side_change (read p e pool.old) delegation (λ total change. add_of total change amount.0) s)) }
+) -> Result<(), Refusal>
+    ensures { ChangesAs pool.old pool.new (add_delegation pool.old.p (words_in pool.old) delegation.now amount.0) result }
 {
-    let account = delegation.stake_account_positions;
-    let is_self = is_self_side(&pool[..], p, e, s, account);
-    let found = side(&pool[..], p, e, s, is_self);
-    let becomes = found.add(amount);
-    write_changed(pool, p, e, s, is_self, becomes)
+    let found = pool.read();
+    let s = delegation_seat(found, delegation)?;
+    let is_self = found.is_self_side(s, delegation.stake_account_positions);
+    let becomes = found.side(s, is_self).add(amount)?;
+    pool.set_side(s, is_self, becomes);
+    Ok(())
 }
 
 // The amount leaves it, by the position's state.
-fn remove_at(
-    pool: &mut [u64],
-    p: usize,
-    e: usize,
-    s: usize,
-    delegation: Delegation,
-    amount: Amount,
-    position_state: PositionState,
-) -> ChangeAnswer
-    requires { Sized pool.old p e × (s < p) }
-    ensures { (change_is result ≡ acceptance (side_change (read p e pool.old) delegation (λ total change. remove_of total change amount.0 position_state) s)) × (pool.new ≡ changed_image p e pool.old (side_change (read p e pool.old) delegation (λ total change. remove_of total change amount.0 position_state) s)) }
-{
-    let account = delegation.stake_account_positions;
-    let is_self = is_self_side(&pool[..], p, e, s, account);
-    let found = side(&pool[..], p, e, s, is_self);
-    let becomes = found.remove(amount, position_state);
-    write_removed(pool, p, e, s, is_self, becomes)
-}
-
-// What was slashed leaves the total of the account's side at seat s, and preunlocking joins its change.
-fn slash_at(
-    pool: &mut [u64],
-    p: usize,
-    e: usize,
-    s: usize,
-    delegation: Delegation,
-    locked_slashed: Amount,
-    preunlocking_slashed: Amount,
-) -> ChangeAnswer
-    requires { Sized pool.old p e × (s < p) }
-    ensures { (change_is result ≡ acceptance (side_change (read p e pool.old) delegation (λ total change. slash_of total change locked_slashed.0 preunlocking_slashed.0) s)) × (pool.new ≡ changed_image p e pool.old (side_change (read p e pool.old) delegation (λ total change. slash_of total change locked_slashed.0 preunlocking_slashed.0) s)) }
-{
-    let account = delegation.stake_account_positions;
-    let is_self = is_self_side(&pool[..], p, e, s, account);
-    let found = side(&pool[..], p, e, s, is_self);
-    let becomes = found.slash(locked_slashed, preunlocking_slashed);
-    write_changed(pool, p, e, s, is_self, becomes)
-}
-
-pub fn add_delegation(
-    pool: &mut [u64],
-    p: usize,
-    e: usize,
-    delegation: Delegation,
-    amount: Amount,
-) -> ChangeAnswer
-    requires { Sized pool.old p e }
-    ensures { (change_is result ≡ acceptance (add_delegation p (read p e pool.old) delegation amount.0)) × (pool.new ≡ changed_image p e pool.old (add_delegation p (read p e pool.old) delegation amount.0)) }
-{
-    let answer = delegation_seat(&pool[..], p, e, delegation);
-    match answer {
-        SeatAnswer::Refused(k) => ChangeAnswer::Refused(k),
-        SeatAnswer::At(s) => add_at(pool, p, e, s, delegation, amount),
-    }
-}
-
 pub fn remove_delegation(
-    pool: &mut [u64],
-    p: usize,
-    e: usize,
-    delegation: Delegation,
+    pool: &mut PoolDataMut<'_>,
+    delegation: &Delegation,
     amount: Amount,
     position_state: PositionState,
-) -> ChangeAnswer
-    requires { Sized pool.old p e }
-    ensures { (change_is result ≡ acceptance (remove_delegation p (read p e pool.old) delegation amount.0 position_state)) × (pool.new ≡ changed_image p e pool.old (remove_delegation p (read p e pool.old) delegation amount.0 position_state)) }
+) -> Result<(), Refusal>
+    ensures { ChangesAs pool.old pool.new (remove_delegation pool.old.p (words_in pool.old) delegation.now amount.0 position_state) result }
 {
-    let answer = delegation_seat(&pool[..], p, e, delegation);
-    match answer {
-        SeatAnswer::Refused(k) => ChangeAnswer::Refused(k),
-        SeatAnswer::At(s) => remove_at(pool, p, e, s, delegation, amount, position_state),
-    }
+    let found = pool.read();
+    let s = delegation_seat(found, delegation)?;
+    let is_self = found.is_self_side(s, delegation.stake_account_positions);
+    let becomes = found.side(s, is_self).remove(amount, position_state)?;
+    pool.set_side(s, is_self, becomes);
+    Ok(())
 }
 
+// What was slashed leaves the total of the account's side, and preunlocking joins its change.
 pub fn apply_slash(
-    pool: &mut [u64],
-    p: usize,
-    e: usize,
-    delegation: Delegation,
+    pool: &mut PoolDataMut<'_>,
+    delegation: &Delegation,
     locked_slashed: Amount,
     preunlocking_slashed: Amount,
-) -> ChangeAnswer
-    requires { Sized pool.old p e }
-    ensures { (change_is result ≡ acceptance (apply_slash p (read p e pool.old) delegation locked_slashed.0 preunlocking_slashed.0)) × (pool.new ≡ changed_image p e pool.old (apply_slash p (read p e pool.old) delegation locked_slashed.0 preunlocking_slashed.0)) }
+) -> Result<(), Refusal>
+    ensures { ChangesAs pool.old pool.new (apply_slash pool.old.p (words_in pool.old) delegation.now locked_slashed.0 preunlocking_slashed.0) result }
 {
-    let answer = slash_seat(&pool[..], p, e, delegation);
-    match answer {
-        SeatAnswer::Refused(k) => ChangeAnswer::Refused(k),
-        SeatAnswer::At(s) => {
-            slash_at(
-                pool,
-                p,
-                e,
-                s,
-                delegation,
-                locked_slashed,
-                preunlocking_slashed,
-            )
-        }
-    }
+    let found = pool.read();
+    let s = slash_seat(found, delegation)?;
+    let is_self = found.is_self_side(s, delegation.stake_account_positions);
+    let becomes = found
+        .side(s, is_self)
+        .slash(locked_slashed, preunlocking_slashed)?;
+    pool.set_side(s, is_self, becomes);
+    Ok(())
 }

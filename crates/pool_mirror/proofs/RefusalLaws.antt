@@ -10,8 +10,7 @@ use Rattle.std.specs.Prelude.{if◌then◌else◌}
 use Rattle.types.specs.Base.{M, word, half, Outcome, refused, accepted, map_outcome, and_then, is_accepted, sum_below, all_below}
 use Rattle.types.specs.Refusals.{invalid_image, invalid_publisher, publisher_not_found, outdated_publisher_accounting, does_not_fit, unexpected_position_state}
 use Rattle.positions.specs.declared.Key.{Key}
-use Rattle.positions.specs.declared.OptionKey.{OptionKey}
-use Rattle.positions.specs.declared.OptionKey.TheVariants.{Some, None}
+use Rattle.std.specs.Prelude.{Option, Some, None}
 use Rattle.positions.specs.declared.position.PositionState.{PositionState}
 use Rattle.positions.specs.declared.position.PositionState.TheVariants.{LOCKING, LOCKED, PREUNLOCKING, UNLOCKING, UNLOCKED}
 use Rattle.positions.specs.Key.{same_key}
@@ -159,7 +158,7 @@ module _ (P E : ℕ) (img : List ℕ) where
   unfolding forecast_call forecast_of
   forecast_refusals m g = checked_in m g _ (map_in _ _ _ (adjustment_in _ m g _))
 
-  fall_in : (found : Key) (account : OptionKey) (custody delegator both : ℕ) → Among payment_refusals (custody_fall found account custody delegator both)
+  fall_in : (found : Key) (account : Option Key) (custody delegator both : ℕ) → Among payment_refusals (custody_fall found account custody delegator both)
   unfolding custody_fall
   fall_in found (Some key) custody delegator both =
       if_in _ (not (same_key found key)) _ _ (refused_in _ _ _ refl) (if_in _ (eqb custody 0) _ _ (refused_in _ _ _ refl) (accepted_in _ _))
@@ -225,7 +224,7 @@ module _ (P E : ℕ) (img : List ℕ) where
   unfolding first_account
   first_in a = if_in _ (same_key a.signer a.publisher || same_key a.signer a.reward_program_authority) _ _ (accepted_in _ _) (refused_in _ _ _ refl)
 
-  later_in : (found : Key) (old : List ℕ) (a : StakeAccounts) (account : OptionKey) → Among stake_account_refusals (later_account found old a account)
+  later_in : (found : Key) (old : List ℕ) (a : StakeAccounts) (account : Option Key) → Among stake_account_refusals (later_account found old a account)
   unfolding later_account
   later_in found old a (Some key) =
       if_in _ (not (same_key key found)) _ _ (refused_in _ _ _ refl) (if_in _ (has_publisher old a.publisher) _ _ (refused_in _ _ _ refl) (if_in _ (not (same_key a.signer a.current_owner)) _ _ (refused_in _ _ _ refl) (accepted_in _ _)))
@@ -235,7 +234,7 @@ module _ (P E : ℕ) (img : List ℕ) where
   unfolding may_change
   may_in found old a = if_in _ (same_key found zero_key) _ _ (first_in a) (later_in found old a _)
 
-  new_in : (new : List ℕ) (publisher : Key) (account : OptionKey) → Among stake_account_refusals (new_account new publisher account)
+  new_in : (new : List ℕ) (publisher : Key) (account : Option Key) → Among stake_account_refusals (new_account new publisher account)
   unfolding new_account
   new_in new publisher (Some key) = if_in _ (has_publisher new publisher) _ _ (refused_in _ _ _ refl) (accepted_in _ _)
   new_in new publisher None = accepted_in _ _

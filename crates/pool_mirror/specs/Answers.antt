@@ -2,10 +2,10 @@
 use Rattle.std.specs.Prelude.{List, [], ◌∷◌, ℕ}
 use Rattle.types.specs.Base.{Outcome, refused, accepted, after}
 use Rattle.positions.specs.declared.position.PositionState.{PositionState}
-use Rattle.positions.specs.declared.position.PositionState.TheVariants.{LOCKING, LOCKED, PREUNLOCKING, UNLOCKING, UNLOCKED}
+use Rattle.positions.specs.State.{state_number}
 use Rattle.advance_plan.specs.Advance.{Advanced}
 use Rattle.integrity_pool.specs.declared.payment.DelegationRecord.{DelegationRecord}
-use Rattle.integrity_pool.specs.Payment.{Payment}
+use Rattle.integrity_pool.specs.Payment.{Payment, record_words}
 
 -- 0 where a call is accepted, else the refusal's number, which is never 0 (Refusals.antt)
 abbrev pub number_of : {A : Type 0} → Outcome A → ℕ
@@ -24,23 +24,11 @@ one_answer found o = after o (λ a. a ∷ []) found
 abbrev pub payment_answer : List ℕ → Outcome Payment → List ℕ
 payment_answer found o = after o (λ a. a.delegator ∷ a.publisher ∷ a.custody_fall ∷ a.reads ∷ []) found
 
--- a staker's record as two words
-abbrev pub record_words : DelegationRecord → List ℕ
-record_words r = r.last_epoch.0 ∷ r.next_slash_event_index ∷ []
-
 abbrev pub payment_record : List ℕ → Outcome Payment → List ℕ
 payment_record found o = after o (λ a. record_words a.kept) found
 
 abbrev pub slash_record : List ℕ → Outcome DelegationRecord → List ℕ
 slash_record found o = after o record_words found
-
--- a state's number, by the Rust's order: the one that a remove reads it from (`state-number-read`)
-abbrev pub state_number : PositionState → ℕ
-state_number UNLOCKED = 0
-state_number LOCKING = 1
-state_number LOCKED = 2
-state_number PREUNLOCKING = 3
-state_number UNLOCKING = 4
 
 abbrev pub state_answer : List ℕ → Outcome PositionState → List ℕ
 state_answer found o = after o (λ s. state_number s ∷ []) found

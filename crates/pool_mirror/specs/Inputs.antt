@@ -1,14 +1,12 @@
 -- What the calls are given of a caller's numbers and fixed arrays. Assumes nothing.
-use Rattle.std.specs.Prelude.{List, ℕ, eqb, get_or, if◌then◌else◌}
+use Rattle.std.specs.Prelude.{List, ℕ, eqb, if◌then◌else◌, Option, Some, None}
 use Rattle.positions.specs.declared.Key.{Key}
-use Rattle.positions.specs.declared.OptionKey.{OptionKey}
-use Rattle.positions.specs.declared.OptionKey.TheVariants.{Some, None}
 use Rattle.positions.specs.declared.position.PositionState.{PositionState}
 use Rattle.positions.specs.declared.position.PositionState.TheVariants.{LOCKING, LOCKED, PREUNLOCKING, UNLOCKING, UNLOCKED}
 use Rattle.positions.specs.Positions.{key_from}
 use Rattle.advance_plan.specs.declared.Given.{Given}
 use Rattle.pool.specs.declared.changes.Delegation.{Delegation}
-use Rattle.integrity_pool.specs.declared.payment.DelegationRecord.{DelegationRecord}
+use Rattle.integrity_pool.specs.Payment.{record_of}
 use Rattle.integrity_pool.specs.declared.payment.Claim.{Claim}
 use Rattle.integrity_pool.specs.declared.slash.Slashing.{Slashing}
 use Rattle.integrity_pool.specs.declared.stake_account.StakeAccounts.{StakeAccounts}
@@ -18,12 +16,8 @@ unfoldable pub key_of : List ℕ → Key
 key_of words = key_from words 0
 
 -- an account that may be absent: a flag of 0 says so
-unfoldable pub key_or_none : (has : ℕ) → List ℕ → OptionKey
+unfoldable pub key_or_none : (has : ℕ) → List ℕ → Option Key
 key_or_none has words = if eqb has 0 then None else Some (key_of words)
-
--- a staker's record of two words: its last epoch and its next slash event's index
-unfoldable pub record_of : List ℕ → DelegationRecord
-record_of words = record { last_epoch = record { 0 = get_or words 0 0 }; next_slash_event_index = get_or words 1 0 }
 
 -- the state with this number, by the Rust's order; a number that is no state's counts as UNLOCKING, which a remove always refuses (`no-state-refused`)
 unfoldable pub state_of : ℕ → PositionState

@@ -2,39 +2,30 @@
 ghost use Rattle.std.specs.Prelude.{◌≡◌};
 ghost use Rattle.image.specs.Changes.{changed_image};
 ghost use Rattle.integrity_pool.specs.Changes.{add_call, remove_call, fee_call};
-ghost use Rattle.pool.specs.Changes.{change_is};
 ghost use Rattle.pool_mirror.specs.Inputs.{delegation_of, state_of};
 ghost use Rattle.pool_mirror.specs.Answers.{number_of};
 
-use crate::inputs;
+use crate::inputs::position_state;
+use crate::number;
 use integrity_pool::changes::{add_delegation, remove_delegation, update_delegation_fee};
-use pool::changes::{ChangeAnswer, Delegation};
+use pool::changes::Delegation;
+use positions::Key;
 use types::{Amount, Ratio};
 
-// The number of an answer that has no values.
-pub fn number(answer: ChangeAnswer) -> u64
-    ensures { result ≡ number_of (change_is answer) }
-{
-    match answer {
-        ChangeAnswer::Done => 0,
-        ChangeAnswer::Refused(k) => k,
-    }
-}
-
 // Whose stake with whom.
+#[tactic(auto, unfolding(crate::specs::Inputs::delegation_of, crate::specs::Inputs::key_of))]
 pub fn delegation(current_epoch: u64, publisher: &[u64; 4], account: &[u64; 4]) -> Delegation
     ensures { result ≡ delegation_of current_epoch publisher.now account.now }
 {
-    let publisher = inputs::key(publisher);
-    let account = inputs::key(account);
     Delegation {
-        publisher,
-        stake_account_positions: account,
+        publisher: Key::from(*publisher),
+        stake_account_positions: Key::from(*account),
         current_epoch,
     }
 }
 
 // An account's stake with a publisher grows from the next epoch on.
+#[tactic(auto, using(crate::proofs::AnswerLaws::change_number))]
 #[unsafe(no_mangle)]
 pub extern "C" fn pool_mirror_add(
     pool: &mut [u64],
@@ -49,11 +40,11 @@ pub extern "C" fn pool_mirror_add(
     ensures pool_after { pool.new ≡ changed_image p e pool.old (add_call p e pool.old (delegation_of current_epoch publisher.now account.now) amount) }
 {
     let whose = delegation(current_epoch, publisher, account);
-    let out = add_delegation(pool, p, e, whose, Amount(amount));
-    number(out)
+    number(add_delegation(pool, p, e, &whose, Amount(amount)))
 }
 
 // It falls, by the state of the position that it is taken from.
+#[tactic(auto, using(crate::proofs::AnswerLaws::change_number))]
 #[unsafe(no_mangle)]
 pub extern "C" fn pool_mirror_remove(
     pool: &mut [u64],
@@ -69,17 +60,16 @@ pub extern "C" fn pool_mirror_remove(
     ensures pool_after { pool.new ≡ changed_image p e pool.old (remove_call p e pool.old (delegation_of current_epoch publisher.now account.now) amount (state_of state)) }
 {
     let whose = delegation(current_epoch, publisher, account);
-    let position_state = inputs::position_state(state);
-    let out = remove_delegation(pool, p, e, whose, Amount(amount), position_state);
-    number(out)
+    let state = position_state(state);
+    number(remove_delegation(pool, p, e, &whose, Amount(amount), state))
 }
 
 // Every seat gets this fee.
+#[tactic(auto, using(crate::proofs::AnswerLaws::change_number))]
 #[unsafe(no_mangle)]
 pub extern "C" fn pool_mirror_fee(pool: &mut [u64], p: usize, e: usize, fee: u64) -> u64
     ensures value { result ≡ number_of (fee_call p e pool.old fee) }
     ensures pool_after { pool.new ≡ changed_image p e pool.old (fee_call p e pool.old fee) }
 {
-    let out = update_delegation_fee(pool, p, e, Ratio(fee));
-    number(out)
+    number(update_delegation_fee(pool, p, e, Ratio(fee)))
 }

@@ -4,13 +4,13 @@
 #![tactic(auto)]
 
 ghost use Rattle.std.specs.Prelude.{◌≡◌};
+ghost use Rattle.types.specs.Base.{outcome_of};
 ghost use Rattle.integrity_pool.specs.Calls.{fresh_call, fresh_image, advance_call, advance_image, forecast_call};
 ghost use Rattle.pool_mirror.specs.Inputs.{given_of};
 ghost use Rattle.pool_mirror.specs.Answers.{number_of, advance_answer, one_answer};
 
 use advance_plan::Given;
-use integrity_pool::FreshAnswer;
-use pool::advance::{AdvanceAnswer, ForecastAnswer};
+use types::refusals::Refusal;
 
 pub mod changes;
 pub mod inputs;
@@ -19,16 +19,23 @@ pub mod position_state;
 pub mod slash;
 pub mod stake_account;
 
+// The number of an answer that has no values.
+pub fn number(answer: Result<(), Refusal>) -> u64
+    ensures { result ≡ number_of (outcome_of answer) }
+{
+    match answer {
+        Ok(()) => 0,
+        Err(refusal) => u64::from(refusal),
+    }
+}
+
 // A new pool.
 #[unsafe(no_mangle)]
 pub extern "C" fn pool_mirror_fresh(pool: &mut [u64], p: usize, e: usize, epoch: u64) -> u64
     ensures value { result ≡ number_of (fresh_call p e pool.old epoch) }
     ensures pool_after { pool.new ≡ fresh_image p e pool.old epoch }
 {
-    match integrity_pool::fresh(pool, p, e, epoch) {
-        FreshAnswer::Done => 0,
-        FreshAnswer::Refused(k) => k,
-    }
+    number(integrity_pool::fresh(pool, p, e, epoch))
 }
 
 // The epochs up to the current one are passed. The answer: y', what is set aside, rows matched, seated and dropped.
@@ -56,17 +63,16 @@ pub extern "C" fn pool_mirror_advance(
         epoch_duration,
         is_verified: verified,
     };
-    let out = integrity_pool::advance(pool, p, e, caps, given);
-    match out {
-        AdvanceAnswer::Refused(k) => k,
-        AdvanceAnswer::Done {
-            y,
-            set_aside,
-            matched,
-            seated,
-            dropped,
-        } => {
-            *answer = [y.0, set_aside.0, matched, seated, dropped];
+    match integrity_pool::advance(pool, p, e, caps, given) {
+        Err(refusal) => refusal.into(),
+        Ok(advanced) => {
+            *answer = [
+                advanced.y.0,
+                advanced.set_aside.0,
+                advanced.matched,
+                advanced.seated,
+                advanced.dropped,
+            ];
             0
         }
     }
@@ -96,10 +102,9 @@ pub extern "C" fn pool_mirror_forecast(
         epoch_duration,
         is_verified: verified,
     };
-    let out = integrity_pool::forecast(pool, p, e, caps, given);
-    match out {
-        ForecastAnswer::Refused(k) => k,
-        ForecastAnswer::SetsAside(aside) => {
+    match integrity_pool::forecast(pool, p, e, caps, given) {
+        Err(refusal) => refusal.into(),
+        Ok(aside) => {
             *answer = [aside.0];
             0
         }

@@ -4,10 +4,12 @@ ghost use Rattle.integrity_pool.specs.Payment.{payment_call, payment_image};
 ghost use Rattle.pool_mirror.specs.Inputs.{claim_of};
 ghost use Rattle.pool_mirror.specs.Answers.{number_of, payment_answer, payment_record};
 
-use crate::inputs;
-use integrity_pool::payment::{Claim, PaymentAnswer, advance_delegation_record};
+use crate::inputs::key_or_none;
+use integrity_pool::payment::{Claim, DelegationRecord, advance_delegation_record};
+use positions::Key;
 
 // What a payment is given besides the pool and the positions.
+#[tactic(auto, unfolding(crate::specs::Inputs::claim_of, crate::specs::Inputs::key_of))]
 fn claim(
     current_epoch: u64,
     publisher: &[u64; 4],
@@ -20,58 +22,14 @@ fn claim(
 ) -> Claim
     ensures { result ≡ claim_of current_epoch publisher.now account.now found.now has_publisher_account publisher_account.now custody_flag unlocking_duration }
 {
-    let delegation_record = inputs::delegation_record(found);
-    let publisher = inputs::key(publisher);
-    let account = inputs::key(account);
-    let paid_with = inputs::key_or_none(has_publisher_account, publisher_account);
     Claim {
-        delegation_record,
-        publisher,
-        stake_account_positions: account,
-        publisher_stake_account_positions: paid_with,
+        delegation_record: DelegationRecord::from(*found),
+        publisher: Key::from(*publisher),
+        stake_account_positions: Key::from(*account),
+        publisher_stake_account_positions: key_or_none(has_publisher_account, publisher_account),
         publisher_stake_account_custody: custody_flag,
         current_epoch,
         unlocking_duration,
-    }
-}
-
-// A payment with what it is given. An accepted one stores the record and the answer.
-fn pay(
-    pool: &mut [u64],
-    p: usize,
-    e: usize,
-    positions: &[u64],
-    given: Claim,
-    found: &mut [u64; 2],
-    answer: &mut [u64; 4],
-) -> u64
-    ensures value { result ≡ number_of (payment_call p e pool.old positions.now given) }
-    ensures pool_after { pool.new ≡ payment_image p e pool.old positions.now given }
-    ensures found_after { found.new ≡ payment_record found.old (payment_call p e pool.old positions.now given) }
-    ensures answer_after { answer.new ≡ payment_answer answer.old (payment_call p e pool.old positions.now given) }
-{
-    let out = advance_delegation_record(pool, p, e, positions, given);
-    match out {
-        PaymentAnswer::Refused(k) => k,
-        PaymentAnswer::Paid {
-            delegator_reward,
-            publisher_reward,
-            custody_fall,
-            delegation_record,
-            reads,
-        } => {
-            *found = [
-                delegation_record.last_epoch.0,
-                delegation_record.next_slash_event_index,
-            ];
-            *answer = [
-                delegator_reward.0,
-                publisher_reward.0,
-                custody_fall.0,
-                reads,
-            ];
-            0
-        }
     }
 }
 
@@ -102,11 +60,23 @@ pub extern "C" fn pool_mirror_payment(
         current_epoch,
         publisher,
         account,
-        &*found,
+        found,
         has_publisher_account,
         publisher_account,
         custody_flag,
         unlocking_duration,
     );
-    pay(pool, p, e, positions, given, found, answer)
+    match advance_delegation_record(pool, p, e, positions, &given) {
+        Err(refusal) => refusal.into(),
+        Ok(payment) => {
+            *found = payment.delegation_record.into();
+            *answer = [
+                payment.delegator_reward.0,
+                payment.publisher_reward.0,
+                payment.custody_fall.0,
+                payment.reads,
+            ];
+            0
+        }
+    }
 }

@@ -6,11 +6,13 @@ ghost use Rattle.pool_mirror.specs.Inputs.{key_of, slashing_of};
 ghost use Rattle.pool_mirror.specs.Answers.{number_of, one_answer, slash_record};
 
 use crate::changes::delegation;
-use crate::inputs;
-use integrity_pool::slash::{CreateAnswer, SlashAnswer, Slashing, create_slash_event, slash};
+use integrity_pool::payment::DelegationRecord;
+use integrity_pool::slash::{Slashing, create_slash_event, slash};
+use positions::Key;
 use types::{Amount, Epoch};
 
 // The publisher's next slash event. The answer: its epoch, the current one.
+#[tactic(auto, using(crate::proofs::AnswerLaws::created_refused, crate::proofs::AnswerLaws::created_accepted), unfolding(crate::specs::Inputs::key_of))]
 #[unsafe(no_mangle)]
 pub extern "C" fn pool_mirror_create_slash_event(
     pool: &mut [u64],
@@ -25,11 +27,10 @@ pub extern "C" fn pool_mirror_create_slash_event(
     ensures pool_after { pool.new ≡ changed_image p e pool.old (create_slash_event_call p e pool.old (key_of publisher.now) index) }
     ensures answer_after { answer.new ≡ one_answer answer.old (created_in current_epoch (create_slash_event_call p e pool.old (key_of publisher.now) index)) }
 {
-    let whose = inputs::key(publisher);
-    let out = create_slash_event(pool, p, e, whose, index, Epoch(current_epoch));
-    match out {
-        CreateAnswer::Refused(k) => k,
-        CreateAnswer::Created(epoch) => {
+    let whose = Key::from(*publisher);
+    match create_slash_event(pool, p, e, whose, index, Epoch(current_epoch)) {
+        Err(refusal) => refusal.into(),
+        Ok(epoch) => {
             *answer = [epoch.0];
             0
         }
@@ -37,6 +38,7 @@ pub extern "C" fn pool_mirror_create_slash_event(
 }
 
 // What a slash is given besides the pool.
+#[tactic(auto, unfolding(crate::specs::Inputs::slashing_of, crate::specs::Inputs::key_of))]
 fn slashing(
     current_epoch: u64,
     publisher: &[u64; 4],
@@ -49,11 +51,9 @@ fn slashing(
 ) -> Slashing
     ensures { result ≡ slashing_of current_epoch publisher.now account.now found.now index event_epoch locked preunlocking }
 {
-    let delegation_record = inputs::delegation_record(found);
-    let delegation = delegation(current_epoch, publisher, account);
     Slashing {
-        delegation_record,
-        delegation,
+        delegation_record: DelegationRecord::from(*found),
+        delegation: delegation(current_epoch, publisher, account),
         index,
         slash_event_epoch: Epoch(event_epoch),
         locked_slashed: Amount(locked),
@@ -62,6 +62,7 @@ fn slashing(
 }
 
 // What a slash event took from an account leaves the publisher's totals, and the record moves past the event.
+#[tactic(auto, using(crate::proofs::AnswerLaws::slashed_refused, crate::proofs::AnswerLaws::slashed_accepted))]
 #[unsafe(no_mangle)]
 pub extern "C" fn pool_mirror_slash(
     pool: &mut [u64],
@@ -84,17 +85,16 @@ pub extern "C" fn pool_mirror_slash(
         current_epoch,
         publisher,
         account,
-        &*found,
+        found,
         index,
         event_epoch,
         locked,
         preunlocking,
     );
-    let out = slash(pool, p, e, given);
-    match out {
-        SlashAnswer::Refused(k) => k,
-        SlashAnswer::Slashed(kept) => {
-            *found = [kept.last_epoch.0, kept.next_slash_event_index];
+    match slash(pool, p, e, &given) {
+        Err(refusal) => refusal.into(),
+        Ok(kept) => {
+            *found = kept.into();
             0
         }
     }

@@ -5,11 +5,13 @@ ghost use Rattle.integrity_pool.specs.Changes.{stake_account_call};
 ghost use Rattle.pool_mirror.specs.Inputs.{accounts_of};
 ghost use Rattle.pool_mirror.specs.Answers.{number_of};
 
-use crate::changes::number;
-use crate::inputs;
+use crate::inputs::key_or_none;
+use crate::number;
 use integrity_pool::stake_account::{StakeAccounts, set_publisher_stake_account};
+use positions::Key;
 
 // The keys that the call is given.
+#[tactic(auto, unfolding(crate::specs::Inputs::accounts_of, crate::specs::Inputs::key_of))]
 fn accounts(
     publisher: &[u64; 4],
     signer: &[u64; 4],
@@ -22,23 +24,18 @@ fn accounts(
 ) -> StakeAccounts
     ensures { result ≡ accounts_of publisher.now signer.now authority.now has_old old_account.now old_owner.now has_new new_account.now }
 {
-    let publisher = inputs::key(publisher);
-    let signer = inputs::key(signer);
-    let authority = inputs::key(authority);
-    let old = inputs::key_or_none(has_old, old_account);
-    let owner = inputs::key(old_owner);
-    let new = inputs::key_or_none(has_new, new_account);
     StakeAccounts {
-        publisher,
-        signer,
-        reward_program_authority: authority,
-        current_stake_account_positions: old,
-        current_owner: owner,
-        new_stake_account_positions: new,
+        publisher: Key::from(*publisher),
+        signer: Key::from(*signer),
+        reward_program_authority: Key::from(*authority),
+        current_stake_account_positions: key_or_none(has_old, old_account),
+        current_owner: Key::from(*old_owner),
+        new_stake_account_positions: key_or_none(has_new, new_account),
     }
 }
 
 // A publisher's stake account is set, changed or taken away.
+#[tactic(auto, using(crate::proofs::AnswerLaws::change_number))]
 #[unsafe(no_mangle)]
 pub extern "C" fn pool_mirror_stake_account(
     pool: &mut [u64],
@@ -68,6 +65,5 @@ pub extern "C" fn pool_mirror_stake_account(
         has_new,
         new_account,
     );
-    let out = set_publisher_stake_account(pool, p, e, old_positions, new_positions, keys);
-    number(out)
+    number(set_publisher_stake_account(pool, p, e, old_positions, new_positions, &keys))
 }

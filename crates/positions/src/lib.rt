@@ -2,31 +2,18 @@
 #![tactic(auto)]
 
 ghost use Rattle.std.specs.Prelude.{◌≡◌};
-ghost use Rattle.positions.specs.Key.{same_key};
+ghost use Rattle.positions.specs.Positions.{key_from};
 
-// A 32-byte key as four little-endian words, as the image holds it: the Rust's Pubkey.
-#[derive(Clone, Copy)]
+// A 32-byte key as four little-endian words, as the image holds it: the Rust's Pubkey. Its default is the zero key.
+#[derive(Clone, Copy, Debug, Default, PartialEq, Eq)]
 pub struct Key(pub u64, pub u64, pub u64, pub u64);
 
-// An account that may be absent: a key, or none.
-#[derive(Clone, Copy)]
-pub enum OptionKey {
-    Some(Key),
-    None,
-}
+impl From<[u64; 4]> for Key {
+    ghost from_gives = { λ words key. key ≡ key_from words 0 };
 
-// Whether two keys are the same.
-pub fn same_key(a: Key, b: Key) -> bool
-    ensures { result ≡ same_key a b }
-{
-    if a.0 == b.0 {
-        if a.1 == b.1 {
-            if a.2 == b.2 {
-                return a.3 == b.3;
-            }
-        }
+    fn from(words: [u64; 4]) -> Key {
+        Key(words[0], words[1], words[2], words[3])
     }
-    false
 }
 
 pub mod list;

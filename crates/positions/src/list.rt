@@ -1,125 +1,72 @@
 // The positions of a stake account as one list of words, nine for each.
-ghost use Rattle.std.specs.Prelude.{◌≡◌, ◌+◌, ◌≤◌, length};
-ghost use Rattle.positions.specs.Positions.{key_from, position_from, position_holds, positions_hold, in_publisher, has_publisher};
-ghost use Rattle.positions.specs.State.{state_is, state_call};
+ghost use Rattle.std.specs.Prelude.{◌≡◌, ◌/◌, length};
+ghost use Rattle.std.specs.Simd.{first_chunks};
+ghost use Rattle.types.specs.Base.{outcome_of};
+ghost use Rattle.positions.specs.Positions.{position_holds, positions_hold, in_publisher, has_publisher};
+ghost use Rattle.positions.specs.State.{state_call};
 
 use crate::Key;
-use crate::position::{Position, StateAnswer};
-use types::refusals::INVALID_POSITIONS;
-use types::{Amount, Epoch};
+use crate::position::{Position, PositionState};
+use types::Epoch;
+use types::refusals::Refusal;
 
-// The key whose four words start at `at`.
-pub fn key_at(words: &[u64], at: usize) -> Key
-    requires { at + 4 ≤ length words.now }
-    ensures { result ≡ key_from words.now at }
-{
-    Key(words[at], words[at + 1], words[at + 2], words[at + 3])
-}
+// The most positions that an account holds.
+pub const MAX_POSITIONS: usize = 256;
 
-// The position whose nine words start at `at`.
-pub fn position_at(words: &[u64], at: usize) -> Position
-    requires { at + 9 ≤ length words.now }
-    ensures { result ≡ position_from words.now at }
+// A list's positions: its whole nines. Words behind the last one are not looked at.
+pub fn nines(words: &[u64]) -> &[[u64; 9]]
+    ensures { result.now ≡ first_chunks 9 (length words.now / 9) words.now }
 {
-    let kind = words[at];
-    let amount = words[at + 1];
-    let activation = words[at + 2];
-    let start_flag = words[at + 3];
-    let start = words[at + 4];
-    let publisher = key_at(words, at + 5);
-    Position {
-        kind,
-        amount: Amount(amount),
-        activation_epoch: Epoch(activation),
-        start_flag,
-        unlocking_start: Epoch(start),
-        publisher,
-    }
+    words.as_chunks().0
 }
 
 // Whether one position is as it should be. The flag of an empty one is not read.
-fn holds_at(words: &[u64], at: usize) -> bool
-    requires { at + 9 ≤ length words.now }
-    ensures { result ≡ position_holds words.now at }
+#[tactic(auto, unfolding(crate::specs::Positions::position_holds))]
+pub fn holds(nine: &[u64; 9]) -> bool
+    ensures { result ≡ position_holds nine.now 0 }
 {
-    let kind = words[at];
-    if 2 < kind {
-        return false;
-    }
-    if 0 < kind {
-        return words[at + 3] <= 1;
-    }
-    true
+    nine[0] <= 2 && (nine[0] == 0 || nine[3] <= 1)
 }
 
 // Refusal 4 is due where this is false.
+#[tactic(auto, unfolding(crate::specs::Positions::positions_hold))]
 pub fn checked(words: &[u64]) -> bool
     ensures { result ≡ positions_hold words.now }
 {
-    let count = words.len() / 9;
-    if 0 < words.len() % 9 {
-        return false;
-    }
-    if 256 < count {
-        return false;
-    }
-    let mut i = 0;
-    while i < count {
-        if !holds_at(words, i * 9) {
-            return false;
-        }
-        i += 1;
-    }
-    true
+    words.len() % 9 == 0 && words.len() / 9 <= MAX_POSITIONS && nines(words).iter().all(holds)
 }
 
-// Whether the position whose nine words start at `at` is one in the publisher. Nothing but its
-// kind and key is looked at.
-pub fn in_publisher(words: &[u64], at: usize, publisher: Key) -> bool
-    requires { at + 9 ≤ length words.now }
-    ensures { result ≡ in_publisher words.now at publisher }
+// Whether a position is one in the publisher. Nothing but its kind and key is looked at.
+#[tactic(auto, unfolding(crate::specs::Positions::in_publisher, crate::specs::Key::same_key))]
+pub fn in_publisher(nine: &[u64; 9], publisher: Key) -> bool
+    ensures { result ≡ in_publisher nine.now 0 publisher }
 {
-    if words[at] != 2 {
-        return false;
-    }
-    let key = key_at(words, at + 5);
-    crate::same_key(key, publisher)
+    nine[0] == 2 && Key(nine[5], nine[6], nine[7], nine[8]) == publisher
 }
 
-// Whether the list has a position in the publisher. Words behind the last whole nine are not
-// looked at, so any list will do.
+// Whether the list has a position in the publisher, so that any list will do.
 pub fn has_target_with_parameters_exposure(words: &[u64], publisher: Key) -> bool
     ensures { result ≡ has_publisher words.now publisher }
 {
-    let count = words.len() / 9;
-    let mut i = 0;
-    while i < count {
-        if in_publisher(words, i * 9, publisher) {
-            return true;
-        }
-        i += 1;
-    }
-    false
+    nines(words)
+        .iter()
+        .any(|nine| in_publisher(nine, publisher))
 }
 
 // The state of the position that the list is. Any list will do: one that is not one position as
 // it should be is refused, and so is an empty one, which has no state.
+#[tactic(auto, unfolding(crate::specs::State::state_call, crate::specs::Positions::position_holds))]
 pub fn position_state(
     position: &[u64],
     current_epoch: Epoch,
     unlocking_duration: u64,
-) -> StateAnswer
-    ensures { state_is result ≡ state_call position.now current_epoch.0 unlocking_duration }
+) -> Result<PositionState, Refusal>
+    ensures { outcome_of result ≡ state_call position.now current_epoch.0 unlocking_duration }
 {
-    if position.len() != 9 {
-        return StateAnswer::Refused(INVALID_POSITIONS);
+    match <&[u64; 9]>::try_from(position) {
+        Ok(nine) if holds(nine) && nine[0] != 0 => {
+            Position::from(*nine).get_current_position(current_epoch, unlocking_duration)
+        }
+        _ => Err(Refusal::InvalidPositions),
     }
-    if !holds_at(position, 0) {
-        return StateAnswer::Refused(INVALID_POSITIONS);
-    }
-    if position[0] == 0 {
-        return StateAnswer::Refused(INVALID_POSITIONS);
-    }
-    let found = position_at(position, 0);
-    found.get_current_position(current_epoch, unlocking_duration)
 }

@@ -1,14 +1,16 @@
 // A stake position and its state in an epoch.
 ghost use Rattle.std.specs.Prelude.{◌≡◌};
-ghost use Rattle.positions.specs.State.{state_is, state_of};
+ghost use Rattle.types.specs.Base.{outcome_of};
+ghost use Rattle.positions.specs.Positions.{position_from};
+ghost use Rattle.positions.specs.State.{state_of, state_number, StateNumbered};
 
 use crate::Key;
-use types::refusals::DOES_NOT_FIT;
+use types::refusals::Refusal;
 use types::{Amount, Epoch};
 
 // The nine words of a position by name. The kind is 0 for an empty position, 1 for voting, 2 for
 // a pool; unlocking has a start where the flag is 1.
-#[derive(Clone, Copy)]
+#[derive(Clone, Copy, Debug, Default, PartialEq, Eq)]
 pub struct Position {
     pub kind: u64,
     pub amount: Amount,
@@ -18,7 +20,33 @@ pub struct Position {
     pub publisher: Key,
 }
 
-#[derive(Drop)]
+impl From<[u64; 9]> for Position {
+    ghost from_gives = { λ words position. position ≡ position_from words 0 };
+
+    fn from(words: [u64; 9]) -> Position {
+        let [
+            kind,
+            amount,
+            activation,
+            start_flag,
+            start,
+            key0,
+            key1,
+            key2,
+            key3,
+        ] = words;
+        Position {
+            kind,
+            amount: Amount(amount),
+            activation_epoch: Epoch(activation),
+            start_flag,
+            unlocking_start: Epoch(start),
+            publisher: Key(key0, key1, key2, key3),
+        }
+    }
+}
+
+#[derive(Clone, Copy, Debug, PartialEq, Eq)]
 pub enum PositionState {
     UNLOCKED,
     LOCKING,
@@ -27,38 +55,70 @@ pub enum PositionState {
     UNLOCKING,
 }
 
-// A state, or a refusal.
-#[derive(Drop)]
-pub enum StateAnswer {
-    State(PositionState),
-    Refused(u64),
+// A number that is no state's.
+#[derive(Clone, Copy, Debug, PartialEq, Eq)]
+pub struct UnknownState(pub u64);
+
+// The states by the Rust's order.
+impl TryFrom<u64> for PositionState {
+    type Error = UnknownState;
+
+    ghost try_from_gives = { StateNumbered };
+
+    fn try_from(number: u64) -> Result<PositionState, UnknownState> {
+        match number {
+            0 => Ok(PositionState::UNLOCKED),
+            1 => Ok(PositionState::LOCKING),
+            2 => Ok(PositionState::LOCKED),
+            3 => Ok(PositionState::PREUNLOCKING),
+            4 => Ok(PositionState::UNLOCKING),
+            _ => Err(UnknownState(number)),
+        }
+    }
+}
+
+impl From<PositionState> for u64 {
+    ghost from_gives = { λ state number. number ≡ state_number state };
+
+    fn from(state: PositionState) -> u64 {
+        match state {
+            PositionState::UNLOCKED => 0,
+            PositionState::LOCKING => 1,
+            PositionState::LOCKED => 2,
+            PositionState::PREUNLOCKING => 3,
+            PositionState::UNLOCKING => 4,
+        }
+    }
 }
 
 impl Position {
     // The state in an epoch. Whether the end of unlocking fits is asked ahead of the states that
     // have a start, since the Rust works the end out first.
-    pub fn get_current_position(self, current_epoch: Epoch, unlocking_duration: u64) -> StateAnswer
-        ensures { state_is result ≡ state_of self current_epoch.0 unlocking_duration }
+    #[tactic(auto, unfolding(crate::specs::State::state_by))]
+    pub fn get_current_position(
+        self,
+        current_epoch: Epoch,
+        unlocking_duration: u64,
+    ) -> Result<PositionState, Refusal>
+        ensures { outcome_of result ≡ state_of self current_epoch.0 unlocking_duration }
     {
         let epoch = current_epoch.0;
-        let activation = self.activation_epoch.0;
-        let flag = self.start_flag;
         let start = self.unlocking_start.0;
-        if epoch < activation {
-            return StateAnswer::State(PositionState::LOCKING);
+        if epoch < self.activation_epoch.0 {
+            return Ok(PositionState::LOCKING);
         }
-        if flag != 1 {
-            return StateAnswer::State(PositionState::LOCKED);
+        if self.start_flag != 1 {
+            return Ok(PositionState::LOCKED);
         }
-        if u64::MAX - unlocking_duration < start {
-            return StateAnswer::Refused(DOES_NOT_FIT);
-        }
+        let Some(end) = start.checked_add(unlocking_duration) else {
+            return Err(Refusal::DoesNotFit);
+        };
         if epoch < start {
-            return StateAnswer::State(PositionState::PREUNLOCKING);
+            Ok(PositionState::PREUNLOCKING)
+        } else if epoch < end {
+            Ok(PositionState::UNLOCKING)
+        } else {
+            Ok(PositionState::UNLOCKED)
         }
-        if epoch < start + unlocking_duration {
-            return StateAnswer::State(PositionState::UNLOCKING);
-        }
-        StateAnswer::State(PositionState::UNLOCKED)
     }
 }

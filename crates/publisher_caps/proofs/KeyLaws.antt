@@ -1,19 +1,26 @@
 -- Laws of keys as numbers: bytes to words to a number, the order, and the words of the image. Assumes nothing.
-use mathlib.Core.Path.{◌≡◌, refl, sym, ap, subst, ◌∙◌}
-use mathlib.Core.Bool.{Bool, true, false}
+use mathlib.Core.Path.{◌≡◌, refl, sym, ap, ◌∙◌}
+use mathlib.Core.Bool.{Bool, true, false, ◌&&◌}
 use mathlib.Core.List.{List, [], ◌∷◌}
-use Prim.Native.Nat.{ℕ, zero, suc, ◌+◌, ◌*◌, ◌/◌, ◌%◌, ◌^◌, ◌<◌, ◌≤◌}
-use native.Mathlib.Nat.{div-lt_iff_lt-mul, mul_comm, mul-le-mul, mul-lt-mul_of_pos_right, add-zero, add-suc, mul_assoc, pow-suc, add_assoc, mod-eq_of_lt}
+use Prim.Native.Nat.{ℕ, zero, suc, ◌+◌, ◌*◌, ◌/◌, ◌%◌, ◌^◌, ◌<◌}
+use native.Mathlib.Nat.{add-zero, add-suc, mul_assoc, pow-suc, add_assoc, mod-eq_of_lt}
 use native.Mathlib.Omega.{arith}
-use lib.Arith.{lt_of_le-ne}
-use lib.Dec.{ltb, eqb}
+use Rattle.std.proofs.Common.{lit<}
 use lib.ListN.{get_or}
-use borrow.Author.Tests.{lt-ltb, le-ltb, eq-eqb, ne_eqb, ltb-true, ltb-false, eqb-true, eqb-false}
-use Rattle.std.specs.Prelude.{if◌then◌else◌}
+use Rattle.std.specs.Prelude.{Some, take, drop}
+use Rattle.std.specs.Int.{w16, w64, from_be_bytes, from_le_bytes, to_le_bytes, swap_bytes}
+use Rattle.std.specs.Ordering.{MatchOrdering, nat_cmp, ordering_then, partial_ordering_then, is_some_and, is_lt}
+use Rattle.std.specs.Cmp.{nat_cmp_is, Some-then}
+use Rattle.std.proofs.lemmas.Cmp.{ranked}
+use lib.Dec.{ltb, eqb}
+use borrow.Author.Tests.{lt-ltb, le-ltb, eq-eqb, eqb-true}
+use Rattle.std.proofs.lemmas.List.{get_or-take, get_or-drop}
 use Rattle.types.specs.Base.{word}
-use Rattle.publisher_caps.specs.declared.Order.{Order}
-use Rattle.publisher_caps.specs.declared.Order.TheVariants.{Less, Equal, Greater}
-use Rattle.publisher_caps.specs.Key.{big_endian, little_endian, swapped, pair, number, order_of}
+use Rattle.types.proofs.Below.{and_both}
+use Rattle.std.specs.declared.cmp.Ordering.{Ordering}
+use Rattle.std.specs.declared.cmp.Ordering.TheVariants.{Less, Equal, Greater}
+use Rattle.publisher_caps.specs.Key.{big_endian, little_endian, swapped, pair, number, number_by}
+use Rattle.publisher_caps.specs.declared.key.KeyNumber.{KeyNumber}
 
 -- ---- bytes
 
@@ -45,30 +52,6 @@ pub eight : (m : List ℕ) (at : ℕ)
     ≡ big_endian m at 8
 unfolding big_endian
 eight m at = omega (arith, ap (λ (n : ℕ). get_or m n 0) (add-zero at))
-
-pub four_bytes : (m : List ℕ) (at : ℕ)
-    → get_or m at 0 * 2 ^ 24 + get_or m (at + 1) 0 * 2 ^ 16 + get_or m (at + 2) 0 * 2 ^ 8 + get_or m (at + 3) 0 ≡ big_endian m at 4
-unfolding big_endian
-four_bytes m at = omega (arith, ap (λ (n : ℕ). get_or m n 0) (add-zero at))
-
--- the first two bytes, and a part of so many that they are in
-pub two_bytes : (m : List ℕ) (at high low parts : ℕ) → high ≡ get_or m at 0 → low ≡ get_or m (at + 1) 0
-    → (high * 256 + low) * parts / 2 ^ 16 ≡ big_endian m at 2 * parts / 2 ^ 16
-unfolding big_endian
-two_bytes m at high low parts eh el =
-    ap (λ (n : ℕ). n * parts / 2 ^ 16) (omega (arith, ap (λ (n : ℕ). get_or m n 0) (add-zero at)))
-
-pub part_below : (x parts : ℕ) → x < 2 ^ 16 → 0 < parts → x * parts / 2 ^ 16 < parts
-part_below x parts h pos = (div-lt_iff_lt-mul {k = 2 ^ 16} {x = x * parts} {y = parts} (omega arith)).1 (rw (mul_comm parts (2 ^ 16)) (mul-lt-mul_of_pos_right h pos))
-
-pub part_fits : (x parts : ℕ) → x < 2 ^ 16 → parts ≤ 4096 → x * parts < 2 ^ 64
-part_fits x parts h l =
-    let a : x ≤ 65535 = omega arith in
-    let b : x * parts ≤ 65535 * 4096 = mul-le-mul a l in
-    omega arith
-
-pub two_halves : (m : List ℕ) (at : ℕ) → big_endian m at 4 * 2 ^ 32 + big_endian m (at + 4) 4 ≡ big_endian m at 8
-two_halves m at = sym (split m at 4 4)
 
 -- eight bytes, the first the lowest
 eight_little : (m : List ℕ) (at : ℕ)
@@ -131,22 +114,12 @@ module _ (a b c d e f g h : ℕ)
 
 module _ (m : List ℕ) (small : (i : ℕ) → get_or m i 0 < 256) (at : ℕ) where
   -- eight bytes read in one order and swapped are read in the other
-  pub swap_big : swapped (big_endian m at 8) ≡ little_endian m at 8
-  swap_big =
-      turned _ _ _ _ _ _ _ _
-      (small (at + 7)) (small (at + 6)) (small (at + 5)) (small (at + 4)) (small (at + 3)) (small (at + 2)) (small (at + 1)) (small at)
-      (big_endian m at 8) (sym (eight m at))
-      ∙ eight_little m at
-
   pub swap_little : swapped (little_endian m at 8) ≡ big_endian m at 8
   swap_little =
       turned _ _ _ _ _ _ _ _
       (small at) (small (at + 1)) (small (at + 2)) (small (at + 3)) (small (at + 4)) (small (at + 5)) (small (at + 6)) (small (at + 7))
       (little_endian m at 8) (sym (eight_little m at))
       ∙ eight m at
-
-pub little_read : (m : List ℕ) (at x r : ℕ) → ((i : ℕ) → get_or m i 0 < 256) → x ≡ big_endian m at 8 → r ≡ swapped x → r ≡ little_endian m at 8
-little_read m at x r small e q = q ∙ ap swapped e ∙ swap_big m small at
 
 -- ---- four words
 
@@ -172,23 +145,14 @@ pair_high : {x y b : ℕ} (d : ℕ) → x < y → b < word → pair x b < pair y
 unfolding pair
 pair_high d h small = omega arith
 
-pair_low : {x y b d : ℕ} → x ≡ y → b < d → pair x b < pair y d
+pub pair_same : (x y b d : ℕ) → b < word → d < word → pair x b ≡ pair y d → (x ≡ y) × (b ≡ d)
 unfolding pair
-pair_low e h = omega arith
+pair_same x y b d hb hd e = (omega arith, omega arith)
 
--- one law for each word that decides
+-- the first word decides
 module _ (a b c d a' b' c' d' : ℕ) where
   pub less_0 : a < a' → b < word → c < word → d < word → number a b c d < number a' b' c' d'
   less_0 h fb fc fd = pair_high _ (pair_high _ (pair_high _ h fb) fc) fd
-
-  pub less_1 : a ≡ a' → b < b' → c < word → d < word → number a b c d < number a' b' c' d'
-  less_1 ea h fc fd = pair_high _ (pair_high _ (pair_low ea h) fc) fd
-
-  pub less_2 : a ≡ a' → b ≡ b' → c < c' → d < word → number a b c d < number a' b' c' d'
-  less_2 ea eb h fd = pair_high _ (pair_low (cc) h) fd
-
-  pub less_3 : a ≡ a' → b ≡ b' → c ≡ c' → d < d' → number a b c d < number a' b' c' d'
-  less_3 ea eb ec h = pair_low (cc) h
 
 -- 32 bytes whose first word decides
 pub words_above : (m : List ℕ) → ((i : ℕ) → get_or m i 0 < 256) → (at at' : ℕ) → big_endian m at 8 < big_endian m at' 8
@@ -203,105 +167,119 @@ words_some m at h =
     (rw number_zero at (less_0 0 0 0 0 (big_endian m at 8) (big_endian m (at + 8) 8) (big_endian m (at + 16) 8) (big_endian m (at + 24) 8) h
     (omega arith) (omega arith) (omega arith)))
 
--- 32 bytes and four words
-pub words_over : (m : List ℕ) → ((i : ℕ) → get_or m i 0 < 256) → (at a b c d : ℕ) → big_endian m at 8 < a → big_endian m at 32 < number a b c d
-words_over m small at a b c d h =
-    rw (← four m at _ _ _ _ refl refl refl refl)
-    (less_0 _ _ _ _ _ _ _ _ h (bytes_below m small (at + 8) 8) (bytes_below m small (at + 16) 8) (bytes_below m small (at + 24) 8))
-
-pub words_under : (m : List ℕ) (at a b c d : ℕ) → a < big_endian m at 8 → b < word → c < word → d < word → number a b c d < big_endian m at 32
-words_under m at a b c d h fb fc fd = rw (← four m at _ _ _ _ refl refl refl refl) (less_0 _ _ _ _ _ _ _ _ h fb fc fd)
-
 -- ---- the order
 
-pub order_less : (x y : ℕ) → x < y → Less ≡ order_of x y
-unfolding order_of
-order_less x y h = simp (lt-ltb _ _ h)
-
-pub order_equal : (x y : ℕ) → x ≡ y → Equal ≡ order_of x y
-unfolding order_of
-order_equal x y h = simp (le-ltb x y (omega arith), eq-eqb _ _ h)
-
-pub order_greater : (x y : ℕ) → y < x → Greater ≡ order_of x y
-unfolding order_of
-order_greater x y h = simp (le-ltb x y (omega arith), ne_eqb x y (λ e. omega arith))
-
--- what an order says of the two numbers
-abbrev pub Told : Order → ℕ → ℕ → Type 0
-Told Less x y = x < y
-Told Equal x y = x ≡ y
-Told Greater x y = y < x
-
-told : (x y : ℕ) → Told (order_of x y) x y
-unfolding order_of
-told x y = go (ltb x y) (eqb x y) refl refl
+-- the higher words decide, and where they are the same the lower ones
+pair_order : (x y b d : ℕ) → b < word → d < word → ordering_then (nat_cmp x y) (nat_cmp b d) ≡ nat_cmp (pair x b) (pair y d)
+unfolding pair
+pair_order x y b d fb fd = nat_cmp_is _ _ _ (go (nat_cmp x y) (nat_cmp b d) (ranked x y _ refl) (ranked b d _ refl))
   where
-    go : (below same : Bool) → ltb x y ≡ below → eqb x y ≡ same → Told (if below then Less else if same then Equal else Greater) x y
-    go true same e1 e2 = ltb-true x y e1
-    go false true e1 e2 = eqb-true x y e2
-    go false false e1 e2 = lt_of_le-ne (ltb-false x y e1) (λ e. eqb-false x y e2 (sym e))
+    go : (r s : Ordering) → MatchOrdering r (x < y) (x ≡ y) (y < x) → MatchOrdering s (b < d) (b ≡ d) (d < b)
+        → MatchOrdering (ordering_then r s) (pair x b < pair y d) (pair x b ≡ pair y d) (pair y d < pair x b)
+    go Less s h k = omega arith
+    go Greater s h k = omega arith
+    go Equal Less h k = omega arith
+    go Equal Equal h k = omega arith
+    go Equal Greater h k = omega arith
 
-pub order_told : (o a : Order) (x y : ℕ) → o ≡ a → o ≡ order_of x y → Told a x y
-order_told o a x y e h = subst (λ (z : Order). Told z x y) (sym h ∙ e) (told x y)
+then_assoc : (a b c : Ordering) → ordering_then a (ordering_then b c) ≡ ordering_then (ordering_then a b) c
+then_assoc Less b c = refl
+then_assoc Equal b c = refl
+then_assoc Greater b c = refl
 
-pub told_less : (x y : ℕ) → Told Less x y → true ≡ ltb x y
-told_less x y h = sym (lt-ltb x y h)
+-- keys in the order of their words are in that of their numbers
+pub order_number : (k l : KeyNumber) → k.1 < word → k.2 < word → k.3 < word → l.1 < word → l.2 < word → l.3 < word
+    → ordering_then (nat_cmp k.0 l.0) (ordering_then (nat_cmp k.1 l.1) (ordering_then (nat_cmp k.2 l.2) (nat_cmp k.3 l.3)))
+    ≡ nat_cmp (number_by k) (number_by l)
+order_number k l k1 k2 k3 l1 l2 l3 =
+    rw (
+      then_assoc (nat_cmp k.0 l.0) (nat_cmp k.1 l.1) (ordering_then (nat_cmp k.2 l.2) (nat_cmp k.3 l.3)),
+      then_assoc (ordering_then (nat_cmp k.0 l.0) (nat_cmp k.1 l.1)) (nat_cmp k.2 l.2) (nat_cmp k.3 l.3),
+      pair_order k.0 l.0 k.1 l.1 k1 l1,
+      pair_order (pair k.0 k.1) (pair l.0 l.1) k.2 l.2 k2 l2,
+    ) (pair_order _ _ _ _ k3 l3)
 
-pub told_equal : (x y : ℕ) → Told Equal x y → false ≡ ltb x y
-told_equal x y h = sym (le-ltb x y (omega arith))
+-- the lower words of a key are words
+abbrev pub Small : KeyNumber → Type 0
+Small k = (k.1 < word) × (k.2 < word) × (k.3 < word)
 
-pub told_greater : (x y : ℕ) → Told Greater x y → false ≡ ltb x y
-told_greater x y h = sym (le-ltb x y (omega arith))
+-- what `k < l` answers
+abbrev pub lt_of : (k l : KeyNumber) → Bool
+lt_of k l =
+    is_some_and is_lt (partial_ordering_then (Some (nat_cmp k.0 l.0)) (partial_ordering_then (Some (nat_cmp k.1 l.1))
+    (partial_ordering_then (Some (nat_cmp k.2 l.2)) (Some (nat_cmp k.3 l.3)))))
 
--- ---- a key of four words against the one at `at`: one law for each way out of the comparison
+below : (x y : ℕ) → is_lt (nat_cmp x y) ≡ ltb x y
+below x y = go (nat_cmp x y) (ranked x y _ refl)
+  where
+    go : (o : Ordering) → MatchOrdering o (x < y) (x ≡ y) (y < x) → is_lt o ≡ ltb x y
+    go Less h = sym (lt-ltb x y h)
+    go Equal h = sym (le-ltb x y (omega arith))
+    go Greater h = sym (le-ltb x y (omega arith))
 
-module _ (m : List ℕ) (at k0 k1 k2 k3 : ℕ) where
-  abbrev w0 : ℕ
-  w0 = big_endian m at 8
+pub lt_number : (k l : KeyNumber) → Small k → Small l → lt_of k l ≡ ltb (number_by k) (number_by l)
+lt_number k l small_k small_l =
+    rw (
+      Some-then (nat_cmp k.2 l.2) (nat_cmp k.3 l.3),
+      Some-then (nat_cmp k.1 l.1) (ordering_then (nat_cmp k.2 l.2) (nat_cmp k.3 l.3)),
+      Some-then (nat_cmp k.0 l.0) (ordering_then (nat_cmp k.1 l.1) (ordering_then (nat_cmp k.2 l.2) (nat_cmp k.3 l.3))),
+    )
+    (ap is_lt (order_number k l small_k.0 small_k.1 small_k.2 small_l.0 small_l.1 small_l.2) ∙ below (number_by k) (number_by l))
 
-  abbrev w1 : ℕ
-  w1 = big_endian m (at + 8) 8
+-- what `k == l` answers
+abbrev pub eq_of : (k l : KeyNumber) → Bool
+eq_of k l = eqb k.0 l.0 && (eqb k.1 l.1 && (eqb k.2 l.2 && eqb k.3 l.3))
 
-  abbrev w2 : ℕ
-  w2 = big_endian m (at + 16) 8
+module _ (k l : KeyNumber) where
+  pub eq_true : eq_of k l ≡ true → number_by k ≡ number_by l
+  eq_true e =
+      let d0 = and_both (eqb k.0 l.0) (eqb k.1 l.1 && (eqb k.2 l.2 && eqb k.3 l.3)) e in
+      let d1 = and_both (eqb k.1 l.1) (eqb k.2 l.2 && eqb k.3 l.3) d0.1 in
+      let d2 = and_both (eqb k.2 l.2) (eqb k.3 l.3) d1.1 in
+      number_same (eqb-true k.0 l.0 d0.0) (eqb-true k.1 l.1 d1.0) (eqb-true k.2 l.2 d2.0) (eqb-true k.3 l.3 d2.1)
 
-  abbrev w3 : ℕ
-  w3 = big_endian m (at + 24) 8
+  pub eq_false : eq_of k l ≡ false → number_by k ≡ number_by l → Small k → Small l → ⊥
+  eq_false e q small_k small_l =
+      let t3 = pair_same _ _ _ _ small_k.2 small_l.2 q in
+      let t2 = pair_same _ _ _ _ small_k.1 small_l.1 t3.0 in
+      let t1 = pair_same _ _ _ _ small_k.0 small_l.0 t2.0 in
+      let same : eq_of k l ≡ true = simp (eq-eqb k.0 l.0 t1.0, eq-eqb k.1 l.1 t1.1, eq-eqb k.2 l.2 t2.1, eq-eqb k.3 l.3 t3.1) in
+      absurd cc
 
-  words : big_endian m at 32 ≡ number w0 w1 w2 w3
-  words = sym (four m at _ _ _ _ refl refl refl refl)
+-- ---- the library's reading
 
-  below_row : number k0 k1 k2 k3 < number w0 w1 w2 w3 → Less ≡ order_of (number k0 k1 k2 k3) (big_endian m at 32)
-  below_row h = rw words (order_less _ _ h)
+big_sum : (xs : List ℕ)
+    → from_be_bytes w64 xs
+    ≡ get_or xs 0 0 * 2 ^ 56 + get_or xs 1 0 * 2 ^ 48 + get_or xs 2 0 * 2 ^ 40 + get_or xs 3 0 * 2 ^ 32
+    + get_or xs 4 0 * 2 ^ 24 + get_or xs 5 0 * 2 ^ 16 + get_or xs 6 0 * 2 ^ 8 + get_or xs 7 0
+big_sum xs = refl
 
-  above_row : number w0 w1 w2 w3 < number k0 k1 k2 k3 → Greater ≡ order_of (number k0 k1 k2 k3) (big_endian m at 32)
-  above_row h = rw words (order_greater _ _ h)
+little_sum : (xs : List ℕ)
+    → from_le_bytes w64 xs
+    ≡ get_or xs 0 0 + get_or xs 1 0 * 2 ^ 8 + get_or xs 2 0 * 2 ^ 16 + get_or xs 3 0 * 2 ^ 24
+    + get_or xs 4 0 * 2 ^ 32 + get_or xs 5 0 * 2 ^ 40 + get_or xs 6 0 * 2 ^ 48 + get_or xs 7 0 * 2 ^ 56
+little_sum xs = refl
 
-  pub row_less_0 : k0 < w0 → k1 < word → k2 < word → k3 < word → Less ≡ order_of (number k0 k1 k2 k3) (big_endian m at 32)
-  row_less_0 h f1 f2 f3 = below_row (less_0 _ _ _ _ _ _ _ _ h f1 f2 f3)
+module _ (m : List ℕ) (at : ℕ) where
+  byte : (n i : ℕ) → i < n → get_or (take n (drop at m)) i 0 ≡ get_or m (at + i) 0
+  byte n i h = get_or-take n (drop at m) i 0 h ∙ get_or-drop at m i 0
 
-  pub row_less_1 : k0 ≡ w0 → k1 < w1 → k2 < word → k3 < word → Less ≡ order_of (number k0 k1 k2 k3) (big_endian m at 32)
-  row_less_1 e0 h f2 f3 = below_row (less_1 _ _ _ _ _ _ _ _ e0 h f2 f3)
+  first : (n : ℕ) → 0 < n → get_or (take n (drop at m)) 0 0 ≡ get_or m at 0
+  first n h = byte n 0 h ∙ ap (λ (k : ℕ). get_or m k 0) (add-zero at)
 
-  pub row_less_2 : k0 ≡ w0 → k1 ≡ w1 → k2 < w2 → k3 < word → Less ≡ order_of (number k0 k1 k2 k3) (big_endian m at 32)
-  row_less_2 e0 e1 h f3 = below_row (less_2 _ _ _ _ _ _ _ _ e0 e1 h f3)
+  pub big_word : from_be_bytes w64 (take 8 (drop at m)) ≡ big_endian m at 8
+  big_word =
+      big_sum (take 8 (drop at m))
+      ∙ rw (first 8 (lit< tt), byte 8 1 (lit< tt), byte 8 2 (lit< tt), byte 8 3 (lit< tt), byte 8 4 (lit< tt), byte 8 5 (lit< tt), byte 8 6 (lit< tt), byte 8 7 (lit< tt)) (eight m at)
 
-  pub row_less_3 : k0 ≡ w0 → k1 ≡ w1 → k2 ≡ w2 → k3 < w3 → Less ≡ order_of (number k0 k1 k2 k3) (big_endian m at 32)
-  row_less_3 e0 e1 e2 h = below_row (less_3 _ _ _ _ _ _ _ _ e0 e1 e2 h)
+  pub big_half : from_be_bytes w16 (take 2 (drop at m)) ≡ big_endian m at 2
+  unfolding big_endian
+  big_half = omega (arith, first 2 (lit< tt), byte 2 1 (lit< tt), ap (λ (k : ℕ). get_or m k 0) (add-zero at))
 
-  pub row_equal : k0 ≡ w0 → k1 ≡ w1 → k2 ≡ w2 → k3 ≡ w3 → Equal ≡ order_of (number k0 k1 k2 k3) (big_endian m at 32)
-  row_equal e0 e1 e2 e3 = rw words (order_equal _ _ (number_same e0 e1 e2 e3))
+  pub little_word : from_le_bytes w64 (take 8 (drop at m)) ≡ little_endian m at 8
+  little_word =
+      little_sum (take 8 (drop at m))
+      ∙ rw (first 8 (lit< tt), byte 8 1 (lit< tt), byte 8 2 (lit< tt), byte 8 3 (lit< tt), byte 8 4 (lit< tt), byte 8 5 (lit< tt), byte 8 6 (lit< tt), byte 8 7 (lit< tt)) (omega (arith, eight_little m at))
 
-  pub row_greater_3 : k0 ≡ w0 → k1 ≡ w1 → k2 ≡ w2 → w3 < k3 → Greater ≡ order_of (number k0 k1 k2 k3) (big_endian m at 32)
-  row_greater_3 e0 e1 e2 h = above_row (less_3 _ _ _ _ _ _ _ _ (sym e0) (sym e1) (sym e2) h)
-
-  module _ (small : (i : ℕ) → get_or m i 0 < 256) where
-    pub row_greater_0 : w0 < k0 → Greater ≡ order_of (number k0 k1 k2 k3) (big_endian m at 32)
-    row_greater_0 h =
-        above_row (less_0 _ _ _ _ _ _ _ _ h (bytes_below m small (at + 8) 8) (bytes_below m small (at + 16) 8) (bytes_below m small (at + 24) 8))
-
-    pub row_greater_1 : k0 ≡ w0 → w1 < k1 → Greater ≡ order_of (number k0 k1 k2 k3) (big_endian m at 32)
-    row_greater_1 e0 h = above_row (less_1 _ _ _ _ _ _ _ _ (sym e0) h (bytes_below m small (at + 16) 8) (bytes_below m small (at + 24) 8))
-
-    pub row_greater_2 : k0 ≡ w0 → k1 ≡ w1 → w2 < k2 → Greater ≡ order_of (number k0 k1 k2 k3) (big_endian m at 32)
-    row_greater_2 e0 e1 h = above_row (less_2 _ _ _ _ _ _ _ _ (sym e0) (sym e1) h (bytes_below m small (at + 24) 8))
+pub swapped_word : (x : ℕ) → swap_bytes w64 x ≡ swapped x
+swapped_word x = big_sum (to_le_bytes w64 x) ∙ swap_sum x

@@ -3,3 +3,4 @@ pub mod NumberLaws
 pub mod RowLaws
 pub mod LookupLaws
 pub mod MessageLaws
+pub mod Fixed

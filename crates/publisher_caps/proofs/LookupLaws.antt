@@ -1,6 +1,5 @@
 -- Laws of looking a key up: one for each way that the search goes, and what the row says. Assumes nothing.
-use mathlib.Core.Path.{◌≡◌, refl, sym, ap, ap₂, subst, ◌∙◌}
-use mathlib.Core.Logic.{◌⊎◌, ⊎_elim}
+use mathlib.Core.Path.{◌≡◌, refl, sym, ap, subst, ◌∙◌}
 use mathlib.Core.Bool.{Bool, true, false}
 use mathlib.Core.List.{List}
 use Prim.Native.Nat.{ℕ, zero, suc, ◌+◌, ◌-◌, ◌*◌, ◌/◌, ◌<◌, ◌≤◌}
@@ -10,14 +9,14 @@ use native.Mathlib.Omega.{arith}
 use lib.Dec.{ltb, eqb}
 use lib.ListN.{get_or}
 use borrow.Author.Tests.{eq-eqb, ne_eqb, ltb-true, ltb-false, eqb-true, eqb-false}
-use Rattle.std.specs.Prelude.{if◌then◌else◌}
+use Rattle.std.specs.Prelude.{Option, Some, None, IfSome, if◌then◌else◌}
+use Rattle.std.specs.Option.{unwrap_or}
 use Rattle.types.specs.Base.{word}
-use Rattle.publisher_caps.specs.declared.Found.{Found}
-use Rattle.publisher_caps.specs.declared.Found.TheVariants.{At, Nothing}
-use Rattle.publisher_caps.specs.Key.{big_endian, number}
+use Rattle.publisher_caps.specs.Key.{number_by}
+use Rattle.publisher_caps.specs.declared.key.KeyNumber.{KeyNumber}
 use Rattle.publisher_caps.specs.Message.{rows_of, key_at, cap_at, Whole}
-use Rattle.publisher_caps.specs.Lookup.{lookup, found_of, AboveFront, BelowRest, Encloses, RowIn, cap_in, cap_of}
-use Rattle.publisher_caps.proofs.KeyLaws.{bytes_below, words_over, words_under}
+use Rattle.publisher_caps.specs.Lookup.{lookup, AboveFront, BelowRest, Encloses, cap_in, cap_of}
+use Rattle.publisher_caps.proofs.KeyLaws.{bytes_below, less_0}
 
 suc_add : (a b : ℕ) → suc a + b ≡ suc (a + b)
 suc_add a b = omega arith
@@ -29,7 +28,7 @@ module _ (m : List ℕ) (key : ℕ) where
   abbrev pub Without : (from rows : ℕ) → Type 0
   Without from rows = (i : ℕ) → from ≤ i → i < from + rows → key_at m i ≡ key → ⊥
 
-  pub lookup_without : (from rows : ℕ) → Without from rows → lookup m key from rows ≡ Nothing
+  pub lookup_without : (from rows : ℕ) → Without from rows → lookup m key from rows ≡ None
   unfolding lookup
   lookup_without from zero w = refl
   lookup_without from (suc rows) w =
@@ -53,29 +52,25 @@ module _ (m : List ℕ) (key : ℕ) where
   cut (suc n) from rows w = rw (suc_add n rows) (go (eqb (key_at m from) key) (cut n (from + 1) rows (λ i a b. w i (omega arith) (omega arith))))
     where
       go : (t : Bool) → lookup m key (from + 1) n ≡ lookup m key (from + 1) (n + rows)
-          → (if t then At from else lookup m key (from + 1) n) ≡ (if t then At from else lookup m key (from + 1) (n + rows))
+          → (if t then Some from else lookup m key (from + 1) n) ≡ (if t then Some from else lookup m key (from + 1) (n + rows))
       go true e = refl
       go false e = e
 
   -- the first row has it
-  first : (from rows : ℕ) → 0 < rows → key ≡ key_at m from → At from ≡ lookup m key from rows
+  first : (from rows : ℕ) → 0 < rows → key ≡ key_at m from → Some from ≡ lookup m key from rows
   unfolding lookup
   first from zero h e = absurd (omega arith)
   first from (suc rows) h e = rw (eq-eqb (key_at m from) key (sym e))
 
 -- ---- the search
 
-found_none : found_of 1_024 ≡ Nothing
-unfolding found_of
-found_none = refl
-
-found_at : (n : ℕ) → (n ≡ 1_024 → ⊥) → found_of n ≡ At n
-unfolding found_of
-found_at n ne = rw (ne_eqb n 1_024 ne)
+-- its answer, a number: no message has a row 1,024
+abbrev pub or_none : Option ℕ → ℕ
+or_none r = unwrap_or r 1_024
 
 module _ (m : List ℕ) (from rows key : ℕ) (given : Whole m × (from + rows ≤ rows_of m)) where
-  pub search_none : rows ≡ 0 → found_of 1_024 ≡ lookup m key from rows
-  search_none e = found_none ∙ sym (lookup_without m key from rows (λ i a b. absurd (omega arith)))
+  pub search_none : rows ≡ 0 → None ≡ lookup m key from rows
+  search_none e = sym (lookup_without m key from rows (λ i a b. absurd (omega arith)))
 
   -- later keys are not smaller
   at_least : (i j : ℕ) → i ≤ j → j < from + rows → key_at m i ≤ key_at m j
@@ -85,24 +80,21 @@ module _ (m : List ℕ) (from rows key : ℕ) (given : Whole m × (from + rows �
       go (yes e) = omega (arith, ap (key_at m) e)
       go (no ne) = omega (arith, given.0.ordered i j (omega arith) (omega arith))
 
-  pub search_low : (r : ℕ) → 0 < rows → key < key_at m (from + rows / 2) → found_of r ≡ lookup m key from (rows / 2)
-      → found_of r ≡ lookup m key from rows
-  search_low r pos l e =
-      e ∙ cut m key (rows / 2) from (rows - rows / 2) (λ i a b q. omega (arith, at_least (from + rows / 2) i a (omega arith)))
+  pub search_low : 0 < rows → key < key_at m (from + rows / 2) → lookup m key from (rows / 2) ≡ lookup m key from rows
+  search_low pos l =
+      cut m key (rows / 2) from (rows - rows / 2) (λ i a b q. omega (arith, at_least (from + rows / 2) i a (omega arith)))
       ∙ ap (λ (n : ℕ). lookup m key from n) (omega arith)
 
-  pub search_here : (n : ℕ) → n ≡ from + rows / 2 → 0 < rows → key ≡ key_at m (from + rows / 2) → found_of n ≡ lookup m key from rows
+  pub search_here : (n : ℕ) → n ≡ from + rows / 2 → 0 < rows → key ≡ key_at m (from + rows / 2) → Some n ≡ lookup m key from rows
   search_here n q pos e =
-      found_at n (λ z. omega (arith, given.0.few))
-      ∙ ap At q
+      ap Some q
       ∙ first m key (from + rows / 2) (rows - rows / 2) (omega arith) e
       ∙ skip m key (rows / 2) from (rows - rows / 2) (λ i a b z. omega (arith, given.0.ordered i (from + rows / 2) b (omega arith)))
       ∙ ap (λ (n : ℕ). lookup m key from n) (omega arith)
 
-  pub search_high : (r : ℕ) → 0 < rows → key_at m (from + rows / 2) < key → found_of r ≡ lookup m key (from + rows / 2 + 1) (rows - rows / 2 - 1)
-      → found_of r ≡ lookup m key from rows
-  search_high r pos l e =
-      e ∙ ap (λ (n : ℕ). lookup m key n (rows - rows / 2 - 1)) (along from (rows / 2))
+  pub search_high : 0 < rows → key_at m (from + rows / 2) < key → lookup m key (from + rows / 2 + 1) (rows - rows / 2 - 1) ≡ lookup m key from rows
+  search_high pos l =
+      ap (λ (n : ℕ). lookup m key n (rows - rows / 2 - 1)) (along from (rows / 2))
       ∙ skip m key (rows / 2 + 1) from (rows - rows / 2 - 1) (λ i a b q. omega (arith, at_least i (from + rows / 2) (omega arith) (omega arith)))
       ∙ ap (λ (n : ℕ). lookup m key from n) (omega arith)
     where
@@ -123,63 +115,35 @@ module _ (m : List ℕ) (whole : Whole m) where
   pub above_none : (low first : ℕ) → low ≡ 0 → AboveFront m low first
   above_none low first e i b c d l = absurd (omega arith)
 
-  pub above_front : ((k : ℕ) → get_or m k 0 < 256) → (low first before : ℕ) → 0 < low → low ≤ rows_of m
-      → before ≡ big_endian m (11 + (low - 1) * 40) 8 → before < first → AboveFront m low first
-  above_front small low first before pos le e h i b c d l =
-      omega (arith, keys_rise i (low - 1) (omega arith) (omega arith), words_over m small (11 + (low - 1) * 40) first b c d (omega arith))
+  pub above_front : (low first : ℕ) (k : KeyNumber) → 0 < low → low ≤ rows_of m → number_by k ≡ key_at m (low - 1)
+      → k.1 < word → k.2 < word → k.3 < word → k.0 < first → AboveFront m low first
+  above_front low first k pos le e f1 f2 f3 h i b c d l =
+      omega (arith, keys_rise i (low - 1) (omega arith) (omega arith), e, less_0 k.0 k.1 k.2 k.3 first b c d h f1 f2 f3)
 
   pub below_none : (high first : ℕ) → rows_of m ≤ high → BelowRest m high first
   below_none high first h i b c d l k fb fc fd = absurd (omega arith)
 
-  pub below_rest : (high first behind : ℕ) → behind ≡ big_endian m (11 + high * 40) 8 → first < behind → BelowRest m high first
-  below_rest high first behind e h i b c d l k fb fc fd =
-      omega (arith, keys_rise high i l k, words_under m (11 + high * 40) first b c d (omega arith) fb fc fd)
+  pub below_rest : (high first : ℕ) (k : KeyNumber) → number_by k ≡ key_at m high → first < k.0 → BelowRest m high first
+  below_rest high first k e h i b c d l n fb fc fd =
+      omega (arith, keys_rise high i l n, e, less_0 first b c d k.0 k.1 k.2 k.3 h fb fc fd)
 
-  -- a search begins with the rows that a key with this first word stands in alone, or with all of them
-  abbrev pub Begun : (low high first rows from count : ℕ) → Type 0
-  Begun low high first rows from count = (Encloses m low high first × (from ≡ low) × (count ≡ high - low)) ⊎ ((from ≡ 0) × (count ≡ rows))
-
-  pub begun_inside : (low high first rows from count : ℕ) → rows ≡ rows_of m → Begun low high first rows from count → from + count ≤ rows_of m
-  begun_inside low high first rows from count er w =
-      ⊎_elim (λ t. omega (arith, t.0.order, t.0.within, t.1, t.2)) (λ t. omega (arith, t.0, t.1)) w
-
-  module _ (low high k0 k1 k2 k3 : ℕ) (f1 : k1 < word) (f2 : k2 < word) (f3 : k3 < word) where
-    abbrev key : ℕ
-    key = number k0 k1 k2 k3
-
-    module _ (only : Encloses m low high k0) where
-      -- so the search among them is one among all
-      enclosed : (rows : ℕ) → rows ≡ rows_of m → lookup m key low (high - low) ≡ lookup m key 0 rows
-      enclosed rows er =
-          let o = only.order in
-          let w = only.within in
-          cut m key (high - low) low (rows - high) (λ i a b q. omega (arith, only.below i k1 k2 k3 (omega arith) (omega arith) f1 f2 f3))
-          ∙ ap (λ (n : ℕ). lookup m key n (high - low + (rows - high))) (sym (zero-add low))
-          ∙ skip m key low 0 (high - low + (rows - high)) (λ i a b q. omega (arith, only.above i k1 k2 k3 (omega arith)))
-          ∙ ap (λ (n : ℕ). lookup m key 0 n) (omega arith)
-
-    pub begun_found : (rows from count r : ℕ) → rows ≡ rows_of m → Begun low high k0 rows from count → found_of r ≡ lookup m key from count
-        → found_of r ≡ lookup m key 0 rows
-    begun_found rows from count r er w e =
-        ⊎_elim
-        (λ t. e ∙ ap₂ (λ (f n : ℕ). lookup m key f n) t.1 t.2 ∙ enclosed t.0 rows er)
-        (λ t. e ∙ ap₂ (λ (f n : ℕ). lookup m key f n) t.0 t.1)
-        w
-
--- what a search's number says
-module _ (m : List ℕ) (rows key key' n : ℕ) (same : key ≡ key') (found : found_of n ≡ lookup m key 0 rows) where
-  pub find_none : n ≡ 1_024 → Nothing ≡ lookup m key' 0 rows
-  find_none e = sym found_none ∙ ap found_of (sym e) ∙ found ∙ ap (λ (k : ℕ). lookup m k 0 rows) same
-
-  pub find_row : (n ≡ 1_024 → ⊥) → At n ≡ lookup m key' 0 rows
-  find_row ne = sym (found_at n ne) ∙ found ∙ ap (λ (k : ℕ). lookup m k 0 rows) same
+  -- the search among them is one among all
+  pub enclosed : (low high rows : ℕ) (k : KeyNumber) → Encloses m low high k.0 → k.1 < word → k.2 < word → k.3 < word → rows ≡ rows_of m
+      → lookup m (number_by k) low (high - low) ≡ lookup m (number_by k) 0 rows
+  enclosed low high rows k only f1 f2 f3 er =
+      let o = only.order in
+      let w = only.within in
+      cut m (number_by k) (high - low) low (rows - high) (λ i a b q. omega (arith, only.below i k.1 k.2 k.3 (omega arith) (omega arith) f1 f2 f3))
+      ∙ ap (λ (n : ℕ). lookup m (number_by k) n (high - low + (rows - high))) (sym (zero-add low))
+      ∙ skip m (number_by k) low 0 (high - low + (rows - high)) (λ i a b q. omega (arith, only.above i k.1 k.2 k.3 (omega arith)))
+      ∙ ap (λ (n : ℕ). lookup m (number_by k) 0 n) (omega arith)
 
 -- ---- what a lookup's answer says
 
 -- the row has the key; without one no row has it
-abbrev pub Sought : List ℕ → (key from rows : ℕ) → Found → Type 0
-Sought m key from rows (At i) = (from ≤ i) × (i < from + rows) × (key_at m i ≡ key)
-Sought m key from rows Nothing = Without m key from rows
+abbrev pub Sought : List ℕ → (key from rows : ℕ) → Option ℕ → Type 0
+Sought m key from rows (Some i) = (from ≤ i) × (i < from + rows) × (key_at m i ≡ key)
+Sought m key from rows None = Without m key from rows
 
 module _ (m : List ℕ) (key : ℕ) where
   looked : (from rows : ℕ) → Sought m key from rows (lookup m key from rows)
@@ -187,39 +151,48 @@ module _ (m : List ℕ) (key : ℕ) where
   looked from zero = λ i a b e. omega arith
   looked from (suc rows) = go (eqb (key_at m from) key) refl (looked (from + 1) rows)
     where
-      later : (r : Found) → (key_at m from ≡ key → ⊥) → Sought m key (from + 1) rows r → Sought m key from (suc rows) r
-      later (At i) ne s = (omega arith, omega arith, s.2)
-      later Nothing ne s = λ i a b e. other i a b e (ℕ_discrete i from)
+      later : (r : Option ℕ) → (key_at m from ≡ key → ⊥) → Sought m key (from + 1) rows r → Sought m key from (suc rows) r
+      later (Some i) ne s = (omega arith, omega arith, s.2)
+      later None ne s = λ i a b e. other i a b e (ℕ_discrete i from)
         where
           other : (i : ℕ) → from ≤ i → i < from + suc rows → key_at m i ≡ key → Dec (i ≡ from) → ⊥
           other i a b e (yes q) = ne (ap (key_at m) (sym q) ∙ e)
           other i a b e (no nq) = s i (omega arith) (omega arith) e
 
       go : (t : Bool) → eqb (key_at m from) key ≡ t → Sought m key (from + 1) rows (lookup m key (from + 1) rows)
-          → Sought m key from (suc rows) (if t then At from else lookup m key (from + 1) rows)
+          → Sought m key from (suc rows) (if t then Some from else lookup m key (from + 1) rows)
       go true e s = (omega arith, omega arith, eqb-true (key_at m from) key e)
       go false e s = later (lookup m key (from + 1) rows) (eqb-false (key_at m from) key e) s
 
-  pub lookup_says : (rows : ℕ) (r : Found) → r ≡ lookup m key 0 rows → Sought m key 0 rows r
+  pub lookup_says : (rows : ℕ) (r : Option ℕ) → r ≡ lookup m key 0 rows → Sought m key 0 rows r
   lookup_says rows r e = subst (Sought m key 0 rows) (sym e) (looked 0 rows)
 
   -- a row that is found is one of the rows, and has the key
-  pub lookup_in : (rows : ℕ) (r : Found) → r ≡ lookup m key 0 rows → RowIn r rows
-  lookup_in rows (At i) e = omega (arith, lookup_says rows (At i) e)
-  lookup_in rows Nothing e = tt
+  pub lookup_in : (rows : ℕ) (r : Option ℕ) → r ≡ lookup m key 0 rows → IfSome r (λ i. i < rows)
+  lookup_in rows (Some i) e = omega (arith, lookup_says rows (Some i) e)
+  lookup_in rows None e = tt
 
-  pub lookup_inside : (rows : ℕ) (r : Found) → rows ≡ rows_of m → r ≡ lookup m key 0 rows → RowIn r (rows_of m)
-  lookup_inside rows r q e = subst (RowIn r) q (lookup_in rows r e)
+  pub lookup_inside : (rows : ℕ) (r : Option ℕ) → rows ≡ rows_of m → r ≡ lookup m key 0 rows → IfSome r (λ i. i < rows_of m)
+  lookup_inside rows r q e = subst (λ (n : ℕ). IfSome r (λ i. i < n)) q (lookup_in rows r e)
 
-  pub lookup_key : (rows i : ℕ) → At i ≡ lookup m key 0 rows → key_at m i ≡ key
-  lookup_key rows i e = (lookup_says rows (At i) e).2
+  pub lookup_key : (rows i : ℕ) → Some i ≡ lookup m key 0 rows → key_at m i ≡ key
+  lookup_key rows i e = (lookup_says rows (Some i) e).2
 
-pub row_in : (r : Found) (rows i : ℕ) → RowIn r rows → r ≡ At i → i < rows
-row_in r rows i w e = subst (λ (x : Found). RowIn x rows) e w
+-- what the search's number says
+module _ (m : List ℕ) (key rows : ℕ) (few : rows ≤ 1_024) where
+  inside : (r : Option ℕ) → r ≡ lookup m key 0 rows → or_none r ≡ 1_024 → r ≡ None
+  inside None e h = refl
+  inside (Some i) e h = absurd (omega (arith, lookup_in m key rows (Some i) e))
 
-pub row_few : (r : Found) (rows limit : ℕ) → rows ≤ limit → RowIn r rows → RowIn r limit
-row_few (At i) rows limit h l = omega arith
-row_few Nothing rows limit h l = tt
+  told : (r : Option ℕ) → (or_none r ≡ 1_024 → ⊥) → Some (or_none r) ≡ r
+  told None ne = absurd (ne refl)
+  told (Some i) ne = refl
+
+  pub none_told : (n : ℕ) → n ≡ or_none (lookup m key 0 rows) → n ≡ 1_024 → None ≡ lookup m key 0 rows
+  none_told n e h = sym (inside (lookup m key 0 rows) refl (sym e ∙ h))
+
+  pub row_told : (n : ℕ) → n ≡ or_none (lookup m key 0 rows) → (n ≡ 1_024 → ⊥) → Some n ≡ lookup m key 0 rows
+  row_told n e ne = ap Some e ∙ told (lookup m key 0 rows) (λ h. ne (e ∙ h))
 
 -- ---- rows of a whole message
 
@@ -234,7 +207,7 @@ module _ (m : List ℕ) (whole : Whole m) where
       go false false p q = omega (arith, ltb-false i j p, ltb-false j i q)
 
   -- the row of row i's own key is row i
-  pub lookup_own : (i : ℕ) → i < rows_of m → lookup m (key_at m i) 0 (rows_of m) ≡ At i
+  pub lookup_own : (i : ℕ) → i < rows_of m → lookup m (key_at m i) 0 (rows_of m) ≡ Some i
   lookup_own i h =
       sym (first m (key_at m i) i (rows_of m - i) (omega arith) refl
       ∙ ap (λ (n : ℕ). lookup m (key_at m i) n (rows_of m - i)) (sym (zero-add i))
@@ -248,22 +221,19 @@ module _ (m : List ℕ) (whole : Whole m) where
 -- ---- caps
 
 module _ (m : List ℕ) where
-  pub cap_arm : (r a : Found) → r ≡ a → cap_in m a ≡ cap_in m r
-  cap_arm r a e = ap (cap_in m) (sym e)
-
-  pub cap_found : (rows key : ℕ) (r : Found) → r ≡ lookup m key 0 rows → cap_in m r ≡ cap_of m rows key
+  pub cap_found : (rows key : ℕ) (r : Option ℕ) → r ≡ lookup m key 0 rows → cap_in m r ≡ cap_of m rows key
   unfolding cap_of
   cap_found rows _ r e = ap (cap_in m) e
 
   -- a key without a row has cap 0
   pub cap_without : (rows key : ℕ) → ((i : ℕ) → i < rows → key_at m i ≡ key → ⊥) → cap_of m rows key ≡ 0
-  cap_without rows key w = sym (cap_found rows key Nothing (sym (lookup_without m key 0 rows (λ i a b e. w i (omega arith) e))))
+  cap_without rows key w = sym (cap_found rows key None (sym (lookup_without m key 0 rows (λ i a b e. w i (omega arith) e))))
 
   -- a cap fits in a word
   pub cap_fits : ((i : ℕ) → get_or m i 0 < 256) → (rows key : ℕ) → cap_of m rows key < word
   unfolding cap_of
   cap_fits small rows key = go (lookup m key 0 rows)
     where
-      go : (r : Found) → cap_in m r < word
-      go (At i) = bytes_below m small (11 + i * 40 + 32) 8
-      go Nothing = omega arith
+      go : (r : Option ℕ) → cap_in m r < word
+      go (Some i) = bytes_below m small (11 + i * 40 + 32) 8
+      go None = omega arith

@@ -7,28 +7,19 @@ use native.Mathlib.Omega.{arith}
 use lib.Dec.{leb}
 use lib.ListN.{length, get_or}
 use borrow.Author.Tests.{le-leb, lt-leb, leb-true}
-use Rattle.types.specs.Base.{word}
+use Rattle.std.specs.Prelude.{take, drop}
+use Rattle.std.specs.Int.{w16, from_be_bytes}
 use Rattle.types.proofs.Below.{and_both}
-use Rattle.publisher_caps.specs.declared.PublisherCap.{PublisherCap}
-use Rattle.publisher_caps.specs.Key.{big_endian, little_endian, swapped, number, number_of}
-use Rattle.publisher_caps.specs.Message.{time_of, rows_of, key_at, cap_at, key_word, row_of, ascends, none_zero, message_holds, Whole}
-use Rattle.publisher_caps.proofs.KeyLaws.{bytes_below, swap_big, swap_little, four, number_same, key_zero}
-use Rattle.publisher_caps.proofs.NumberLaws.{swapped_fits}
+use Rattle.publisher_caps.specs.Key.{big_endian, swapped, number, number_of}
+use Rattle.publisher_caps.specs.Message.{rows_of, key_at, key_word, row_of, ascends, none_zero, message_holds, Whole}
+use Rattle.publisher_caps.proofs.KeyLaws.{big_half, swap_little, four, number_same, key_zero}
 use Rattle.publisher_caps.proofs.RowLaws.{ordered_holds, ascends_pairs, none_zero_each}
 
 -- ---- time and row count
 
-pub time_bytes : (m : List ℕ) (r : ℕ) → r ≡ big_endian m 1 8 → r ≡ time_of m
-unfolding time_of
-time_bytes m r e = e
-
-pub count_bytes : (m : List ℕ) → get_or m 9 0 * 256 + get_or m 10 0 ≡ rows_of m
-unfolding rows_of big_endian
-count_bytes m = omega arith
-
-pub time_fits : (m : List ℕ) → ((i : ℕ) → get_or m i 0 < 256) → time_of m < word
-unfolding time_of
-time_fits m small = bytes_below m small 1 8
+pub count_bytes : (m : List ℕ) → from_be_bytes w16 (take 2 (drop 9 m)) ≡ rows_of m
+unfolding rows_of
+count_bytes m = big_half m 9
 
 -- ---- the check
 
@@ -92,31 +83,10 @@ module _ (m : List ℕ) where
 -- ---- a row's words
 
 module _ (m : List ℕ) (i : ℕ) where
-  -- where each word of the key stands
-  word_at : (c n : ℕ) → n ≡ 11 + i * 40 + c * 8 → little_endian m n 8 ≡ key_word m i c
-  unfolding key_word
-  word_at c n e = ap (λ (k : ℕ). little_endian m k 8) e
-
-  pub row_read : (at a b c d cap : ℕ) → at ≡ 11 + i * 40 → a ≡ little_endian m at 8 → b ≡ little_endian m (at + 8) 8 → c ≡ little_endian m (at + 16) 8
-      → d ≡ little_endian m (at + 24) 8 → cap ≡ big_endian m (at + 32) 8
-      → ◌≡◌ {A = PublisherCap} (record { pubkey = record { 0 = a; 1 = b; 2 = c; 3 = d }; cap = cap }) (row_of m i)
-  unfolding row_of
-  row_read at a b c d cap e ea eb ec ed ecap =
-      let qa : a ≡ key_word m i 0 = ea ∙ word_at 0 at (omega arith) in
-      let qb : b ≡ key_word m i 1 = eb ∙ word_at 1 (at + 8) (omega arith) in
-      let qc : c ≡ key_word m i 2 = ec ∙ word_at 2 (at + 16) (omega arith) in
-      let qd : d ≡ key_word m i 3 = ed ∙ word_at 3 (at + 24) (omega arith) in
-      let qcap : cap ≡ cap_at m i = ecap ∙ ap (λ (k : ℕ). big_endian m (k + 32) 8) e in
-      rw (qa, qb, qc, qd, qcap)
-
   module _ (small : (k : ℕ) → get_or m k 0 < 256) where
     word_swapped : (c n : ℕ) → n ≡ 11 + i * 40 + c * 8 → swapped (key_word m i c) ≡ big_endian m n 8
     unfolding key_word
     word_swapped c n e = swap_little m small (11 + i * 40 + c * 8) ∙ ap (λ (k : ℕ). big_endian m k 8) (sym e)
-
-    pub key_word_fits : (c : ℕ) → key_word m i c < word
-    unfolding key_word
-    key_word_fits c = rw (← swap_big m small (11 + i * 40 + c * 8)) (swapped_fits (big_endian m (11 + i * 40 + c * 8) 8))
 
     -- the words of a row's key are its number
     pub row_number : number (swapped (key_word m i 0)) (swapped (key_word m i 1)) (swapped (key_word m i 2)) (swapped (key_word m i 3)) ≡ key_at m i

@@ -1,19 +1,13 @@
 -- Laws of keys and their numbers: keys of the image with the same number are the same, word by word. Assumes nothing.
-use mathlib.Core.Path.{◌≡◌, refl, sym, ap, ◌∙◌}
-use mathlib.Core.Bool.{Bool, true, false}
-use mathlib.Core.List.{List}
+use mathlib.Core.Path.{◌≡◌, sym, ap, ◌∙◌}
 use Prim.Native.Nat.{ℕ, ◌+◌, ◌*◌, ◌/◌, ◌%◌, ◌^◌, ◌<◌}
 use native.Mathlib.Nat.{mod-lt, mod-eq_of_lt}
 use native.Mathlib.Omega.{arith}
-use lib.Dec.{eqb}
-use lib.ListN.{get_or}
-use borrow.Author.Tests.{eq-eqb, ne_eqb, eqb-true, eqb-false}
 use Rattle.types.specs.Base.{word}
 use Rattle.positions.specs.declared.Key.{Key}
-use Rattle.positions.specs.Key.{same_key}
-use Rattle.positions.proofs.KeyLaws.{same_last, same_says}
-use Rattle.publisher_caps.specs.Key.{big_endian, swapped, pair, number, number_of}
-use Rattle.publisher_caps.proofs.KeyLaws.{bytes_below, turned, swap_sum, four, number_same}
+use Rattle.positions.proofs.KeyLaws.{by_words}
+use Rattle.publisher_caps.specs.Key.{swapped, number_of}
+use Rattle.publisher_caps.proofs.KeyLaws.{turned, swap_sum, pair_same}
 
 -- the words of a key are words
 abbrev pub KeyFits : Key → Type 0
@@ -71,10 +65,6 @@ swapped_same x y hx hy e = sym (swapped_twice x hx) ∙ ap swapped e ∙ swapped
 
 -- ---- numbers
 
-pair_same : (x y b d : ℕ) → b < word → d < word → pair x b ≡ pair y d → (x ≡ y) × (b ≡ d)
-unfolding pair
-pair_same x y b d hb hd e = (omega arith, omega arith)
-
 module _ (a b : Key) (fa : KeyFits a) (fb : KeyFits b) where
   -- keys with the same number have the same words
   pub number_words : number_of a ≡ number_of b → (a.0 ≡ b.0) × (a.1 ≡ b.1) × (a.2 ≡ b.2) × (a.3 ≡ b.3)
@@ -88,53 +78,6 @@ module _ (a b : Key) (fa : KeyFits a) (fb : KeyFits b) where
         swapped_same _ _ fa.3 fb.3 t3.1,
       )
 
-  -- so keys are the same just if their numbers are
-  pub same_number : same_key a b ≡ eqb (number_of a) (number_of b)
-  same_number = go (eqb (number_of a) (number_of b)) refl
-    where
-      go : (t : Bool) → eqb (number_of a) (number_of b) ≡ t → same_key a b ≡ t
-      go true e =
-          let w = number_words (eqb-true (number_of a) (number_of b) e) in
-          sym (same_last a b w.0 w.1 w.2) ∙ eq-eqb a.3 b.3 w.3
-      go false e = differs (same_key a b) refl
-        where
-          differs : (s : Bool) → same_key a b ≡ s → s ≡ false
-          differs false q = refl
-          differs true q =
-              let n : number_of a ≡ number_of b = ap number_of (same_says a b q) in
-              let z : true ≡ false = sym (eq-eqb (number_of a) (number_of b) n) ∙ e in
-              z
-
--- ---- whether the key at `at` is that of four words
-
-module _ (m : List ℕ) (small : (i : ℕ) → get_or m i 0 < 256) (at k0 k1 k2 k3 : ℕ) (f1 : k1 < word) (f2 : k2 < word) (f3 : k3 < word) where
-  abbrev Same : Type 0
-  Same = big_endian m at 32 ≡ number k0 k1 k2 k3
-
-  parts : Same → (big_endian m at 8 ≡ k0) × (big_endian m (at + 8) 8 ≡ k1) × (big_endian m (at + 16) 8 ≡ k2) × (big_endian m (at + 24) 8 ≡ k3)
-  parts e =
-      let q = four m at _ _ _ _ refl refl refl refl ∙ e in
-      let t3 = pair_same _ _ _ _ (bytes_below m small (at + 24) 8) f3 q in
-      let t2 = pair_same _ _ _ _ (bytes_below m small (at + 16) 8) f2 t3.0 in
-      let t1 = pair_same _ _ _ _ (bytes_below m small (at + 8) 8) f1 t2.0 in
-      (t1.0, t1.1, t2.1, t3.1)
-
-  unlike : (Same → ⊥) → false ≡ eqb (big_endian m at 32) (number k0 k1 k2 k3)
-  unlike ne = sym (ne_eqb _ _ ne)
-
-  pub unlike_0 : (v : ℕ) → v ≡ big_endian m at 8 → (v ≡ k0 → ⊥) → false ≡ eqb (big_endian m at 32) (number k0 k1 k2 k3)
-  unlike_0 v e ne = unlike (λ q. ne (e ∙ (parts q).0))
-
-  pub unlike_1 : (v : ℕ) → v ≡ big_endian m (at + 8) 8 → (v ≡ k1 → ⊥) → false ≡ eqb (big_endian m at 32) (number k0 k1 k2 k3)
-  unlike_1 v e ne = unlike (λ q. ne (e ∙ (parts q).1))
-
-  pub unlike_2 : (v : ℕ) → v ≡ big_endian m (at + 16) 8 → (v ≡ k2 → ⊥) → false ≡ eqb (big_endian m at 32) (number k0 k1 k2 k3)
-  unlike_2 v e ne = unlike (λ q. ne (e ∙ (parts q).2))
-
-  pub by_last : (a b c d : ℕ) → a ≡ big_endian m at 8 → b ≡ big_endian m (at + 8) 8 → c ≡ big_endian m (at + 16) 8 → d ≡ big_endian m (at + 24) 8
-      → a ≡ k0 → b ≡ k1 → c ≡ k2 → eqb d k3 ≡ eqb (big_endian m at 32) (number k0 k1 k2 k3)
-  by_last a b c d ea eb ec ed qa qb qc = go (eqb d k3) refl
-    where
-      go : (t : Bool) → eqb d k3 ≡ t → t ≡ eqb (big_endian m at 32) (number k0 k1 k2 k3)
-      go true e = sym (eq-eqb _ _ (sym (four m at a b c d ea eb ec ed) ∙ number_same qa qb qc (eqb-true d k3 e)))
-      go false e = unlike (λ q. eqb-false d k3 e (ed ∙ (parts q).3))
+  -- so they are the same
+  pub same_number : number_of a ≡ number_of b → a ≡ b
+  same_number e = let w = number_words e in by_words a b w.0 w.1 w.2 w.3

@@ -1,5 +1,5 @@
 -- Laws of the keys' order: what the check's loop keeps, and what its answer says. Assumes nothing.
-use mathlib.Core.Path.{◌≡◌, refl, sym, ap, ap₂, subst, ◌∙◌}
+use mathlib.Core.Path.{◌≡◌, refl, sym, ap, subst, ◌∙◌}
 use mathlib.Core.Logic.{◌⊎◌, ⊎_elim}
 use mathlib.Core.Bool.{Bool, true, false, ◌&&◌}
 use mathlib.Core.List.{List}
@@ -13,7 +13,7 @@ use borrow.Author.Tests.{lt-ltb, le-ltb, ltb-true}
 use Rattle.types.proofs.Below.{and_left, and_right, all_each, all_not, all_at}
 use Rattle.publisher_caps.specs.Key.{big_endian, number}
 use Rattle.publisher_caps.specs.Message.{key_at, key_before, first_before, ascends, none_zero}
-use Rattle.publisher_caps.proofs.KeyLaws.{number_zero, four, words_above, words_some}
+use Rattle.publisher_caps.proofs.KeyLaws.{number_zero, words_above, words_some}
 
 -- ---- one row against the one before it
 
@@ -24,43 +24,29 @@ module _ (m : List ℕ) where
   rises_first zero before first small eb ef h = sym (lt-ltb _ _ (words_some m 11 (omega arith)))
   rises_first (suc i) before first small eb ef h = sym (lt-ltb _ _ (words_above m small (11 + i * 40) (11 + suc i * 40) (omega arith)))
 
-  -- the whole keys are compared
-  pub rises_zero : (i : ℕ) (r : Bool) → i ≡ 0 → r ≡ ltb (number 0 0 0 0) (big_endian m 11 32) → r ≡ ltb (key_before m i) (key_at m i)
-  rises_zero i r e h = rw e (h ∙ ap (λ (n : ℕ). ltb n (big_endian m 11 32)) number_zero)
+  pub before_first : (i : ℕ) → i ≡ 0 → number 0 0 0 0 ≡ key_before m i
+  before_first i e = rw e number_zero
 
-  pub rises_row : (i at before k1 k2 k3 : ℕ) (r : Bool) → (i ≡ 0 → ⊥) → at ≡ 11 + (i - 1) * 40 → before ≡ first_before m i
-      → k1 ≡ big_endian m (at + 8) 8 → k2 ≡ big_endian m (at + 16) 8 → k3 ≡ big_endian m (at + 24) 8
-      → r ≡ ltb (number before k1 k2 k3) (big_endian m (at + 40) 32) → r ≡ ltb (key_before m i) (key_at m i)
-  rises_row zero at before k1 k2 k3 r ne ea eb e1 e2 e3 h = absurd (ne refl)
-  rises_row (suc i) at before k1 k2 k3 r ne ea eb e1 e2 e3 h =
-      let here : at ≡ 11 + i * 40 = omega arith in
-      h ∙ ap₂ ltb
-      (four m at before k1 k2 k3 (eb ∙ ap (λ (n : ℕ). big_endian m n 8) (sym here)) e1 e2 e3 ∙ ap (λ (n : ℕ). big_endian m n 32) here)
-      (ap (λ (n : ℕ). big_endian m n 32) (omega arith))
+  pub before_row : (i n : ℕ) → (i ≡ 0 → ⊥) → n ≡ key_at m (i - 1) → n ≡ key_before m i
+  before_row zero n ne e = absurd (ne refl)
+  before_row (suc i) n ne e = e ∙ ap (key_at m) (omega arith)
 
--- each of the first i keys is above the one before it; `prior` is the last of them
-pub record Climbs (m : List ℕ) (i prior : ℕ) : Type 0 where
-  pub last : prior ≡ key_before m i
+-- each of the first i keys is above the one before it
+pub record Climbs (m : List ℕ) (i : ℕ) : Type 0 where
   pub each : (j : ℕ) → j < i → key_before m j < key_at m j
 
 and_true : (a b : Bool) → a ≡ true → b ≡ true → true ≡ (a && b)
 and_true a b ea eb = rw (ea, eb)
 
 module _ (m : List ℕ) where
-  pub climbs_none : (prior : ℕ) → prior ≡ 0 → Climbs m 0 prior
-  climbs_none prior e = record { last = e; each = λ j l. absurd (omega arith) }
+  pub climbs_none : Climbs m 0
+  climbs_none = record { each = λ j l. absurd (omega arith) }
 
-  pub climbs_more : (i prior next : ℕ) → Climbs m i prior → prior < key_at m i → next ≡ key_at m i → Climbs m (i + 1) next
-  climbs_more i prior next h l e = rw (add-one i) (record { last = e; each = λ j lj. go j lj (eq-or-lt_of_le (omega arith)) })
+  pub climbs_next : (i : ℕ) → Climbs m i → key_before m i < key_at m i → Climbs m (i + 1)
+  climbs_next i h l = rw (add-one i) (record { each = λ j lj. go j lj (eq-or-lt_of_le (omega arith)) })
     where
-      here : key_before m i < key_at m i
-      here = omega (arith, h.last, l)
-
       go : (j : ℕ) → j < suc i → (j ≡ i) ⊎ (j < i) → key_before m j < key_at m j
-      go j lj w = ⊎_elim (λ q. subst (λ (n : ℕ). key_before m n < key_at m n) (sym q) here) (λ k. h.each j k) w
-
-  pub climbs_next : (i : ℕ) → Climbs m i (key_before m i) → key_before m i < key_at m i → Climbs m (i + 1) (key_before m (i + 1))
-  climbs_next i h l = climbs_more i (key_before m i) (key_before m (i + 1)) h l (rw (add-one i))
+      go j lj w = ⊎_elim (λ q. subst (λ (n : ℕ). key_before m n < key_at m n) (sym q) l) (λ k. h.each j k) w
 
   pub first_next : (i first : ℕ) → first ≡ big_endian m (11 + i * 40) 8 → first ≡ first_before m (i + 1)
   first_next i first e = rw (add-one i) e
@@ -69,9 +55,9 @@ module _ (m : List ℕ) where
   above_zero : (i : ℕ) → key_before m i < key_at m i → 0 < key_at m i
   above_zero i h = omega arith
 
-  pub climbs_all : (i rows prior : ℕ) → Climbs m i prior → i ≡ rows → true ≡ (ascends m rows && none_zero m rows)
+  pub climbs_all : (i rows : ℕ) → Climbs m i → i ≡ rows → true ≡ (ascends m rows && none_zero m rows)
   unfolding ascends none_zero
-  climbs_all i rows prior h e =
+  climbs_all i rows h e =
       and_true _ _
       (all_each _ (rows - 1) (λ j l. lt-ltb _ _ (rw (← add-one j) at (h.each (suc j) (omega arith)))))
       (all_each _ rows (λ j l. lt-ltb _ _ (above_zero j (h.each j (omega arith)))))
@@ -84,12 +70,9 @@ module _ (m : List ℕ) where
   unfolding none_zero
   zero_first rows l h = all_not _ rows 0 l (le-ltb _ _ h)
 
-  not_above : (i rows : ℕ) → i < rows → key_at m i ≤ key_before m i → false ≡ (ascends m rows && none_zero m rows)
-  not_above zero rows l h = sym (and_right (ascends m rows) (none_zero m rows) (zero_first rows l h))
-  not_above (suc i) rows l h = sym (and_left (ascends m rows) (none_zero m rows) (ascends_not i rows (omega arith) (rw (add-one i) h)))
-
-  pub climbs_not : (i rows prior : ℕ) → Climbs m i prior → i < rows → key_at m i ≤ prior → false ≡ (ascends m rows && none_zero m rows)
-  climbs_not i rows prior h l k = not_above i rows l (omega (arith, h.last))
+  pub climbs_not : (i rows : ℕ) → i < rows → key_at m i ≤ key_before m i → false ≡ (ascends m rows && none_zero m rows)
+  climbs_not zero rows l h = sym (and_right (ascends m rows) (none_zero m rows) (zero_first rows l h))
+  climbs_not (suc i) rows l h = sym (and_left (ascends m rows) (none_zero m rows) (ascends_not i rows (omega arith) (rw (add-one i) h)))
 
   -- the tests from what they say of the keys
   pub ordered_holds : (rows : ℕ) → ((i j : ℕ) → i < j → j < rows → key_at m i < key_at m j) → ((i : ℕ) → i < rows → 0 < key_at m i)

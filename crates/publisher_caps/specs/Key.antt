@@ -1,9 +1,8 @@
 -- A key as a number below 2^256: its 32 bytes in order, the first the highest. Keys compare by bytes as these numbers do. Assumes nothing.
-use Rattle.std.specs.Prelude.{List, [], ◌∷◌, ℕ, zero, suc, ◌+◌, ◌*◌, ◌/◌, ◌%◌, ◌^◌, ltb, eqb, get_or, if◌then◌else◌}
+use Rattle.std.specs.Prelude.{List, [], ◌∷◌, ℕ, zero, suc, ◌+◌, ◌*◌, ◌/◌, ◌%◌, ◌^◌, get_or}
 use Rattle.types.specs.Base.{word}
 use Rattle.positions.specs.declared.Key.{Key}
-use Rattle.publisher_caps.specs.declared.Order.{Order}
-use Rattle.publisher_caps.specs.declared.Order.TheVariants.{Less, Equal, Greater}
+use Rattle.publisher_caps.specs.declared.key.KeyNumber.{KeyNumber}
 
 -- the `count` bytes from `at` on as a big-endian number
 unfoldable pub big_endian : List ℕ → (at count : ℕ) → ℕ
@@ -37,6 +36,6 @@ number a b c d = pair (pair (pair a b) c) d
 abbrev pub number_of : Key → ℕ
 number_of k = number (swapped k.0) (swapped k.1) (swapped k.2) (swapped k.3)
 
--- how a key compares with another
-unfoldable pub order_of : ℕ → ℕ → Order
-order_of x y = if ltb x y then Less else if eqb x y then Equal else Greater
+-- the same of a key whose words are such numbers already
+abbrev pub number_by : KeyNumber → ℕ
+number_by k = number k.0 k.1 k.2 k.3

@@ -1,3 +1,4 @@
 pub mod Key
 pub mod Message
 pub mod Lookup
+pub mod Caps

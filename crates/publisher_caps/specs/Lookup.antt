@@ -1,33 +1,22 @@
 -- Item 2: the row of a key, and a key's cap. Assumes nothing.
-use Rattle.std.specs.Prelude.{List, ℕ, zero, suc, ◌+◌, ◌≤◌, ◌<◌, eqb, if◌then◌else◌}
+use Rattle.std.specs.Prelude.{List, Option, Some, None, ℕ, zero, suc, ◌+◌, ◌≤◌, ◌<◌, eqb, if◌then◌else◌}
 use Rattle.types.specs.Base.{word}
-use Rattle.publisher_caps.specs.declared.Found.{Found}
-use Rattle.publisher_caps.specs.declared.Found.TheVariants.{At, Nothing}
 use Rattle.publisher_caps.specs.Key.{number}
 use Rattle.publisher_caps.specs.Message.{rows_of, key_at, cap_at}
 
 -- the first of `rows` rows from `from` on that has the key, looked for row by row
-unfoldable pub lookup : List ℕ → (key from rows : ℕ) → Found
-lookup m key from zero = Nothing
-lookup m key from (suc rows) = if eqb (key_at m from) key then At from else lookup m key (from + 1) rows
+unfoldable pub lookup : List ℕ → (key from rows : ℕ) → Option ℕ
+lookup m key from zero = None
+lookup m key from (suc rows) = if eqb (key_at m from) key then Some from else lookup m key (from + 1) rows
 
 -- the cap of a row that was found
-abbrev pub cap_in : List ℕ → Found → ℕ
-cap_in m (At i) = cap_at m i
-cap_in m Nothing = 0
+abbrev pub cap_in : List ℕ → Option ℕ → ℕ
+cap_in m (Some i) = cap_at m i
+cap_in m None = 0
 
 -- 'A publisher without a row has cap 0': the cap of a key among the first `rows` rows
 unfoldable pub cap_of : List ℕ → (rows key : ℕ) → ℕ
 cap_of m rows key = cap_in m (lookup m key 0 rows)
-
--- a row that was found is one of the first `rows`
-abbrev pub RowIn : Found → (rows : ℕ) → Type 0
-RowIn (At i) rows = i < rows
-RowIn Nothing rows = Unit {0}
-
--- the search's answer, a number: no message has a row 1,024
-unfoldable pub found_of : ℕ → Found
-found_of n = if eqb n 1_024 then Nothing else At n
 
 -- keys with this first word are above those of the rows in front of `low`
 abbrev pub AboveFront : List ℕ → (low first : ℕ) → Type 0

@@ -1,3 +1,2 @@
 pub mod CellsLaws
 pub mod RowsLaws
-pub mod Fixed

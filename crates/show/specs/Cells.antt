@@ -1,16 +1,14 @@
 -- Numbers and keys as people read them. Assumes nothing.
-use Rattle.std.specs.Prelude.{cond, List, [], ◌∷◌, ◌++◌, ℕ, ◌-◌, ◌/◌, ◌%◌, ◌^◌, ltb}
-use Rattle.io.specs.Digits.{hex_digit_ascii, IsDigitCount}
+use Rattle.std.specs.Prelude.{cond, List, [], ◌∷◌, ◌++◌, ℕ, ◌-◌, ◌/◌, ◌%◌, ◌^◌, ltb, codes, ℤ, pos, neg_ℤ}
+use Rattle.io.specs.Digits.{hex_digit_ascii}
 use Rattle.types.specs.Base.{half, word}
 use Rattle.positions.specs.declared.Key.{Key}
+use Rattle.positions.specs.Key.{same_key}
+use Rattle.image.specs.Seats.{zero_key}
 
--- k is how many digits n has in decimal: the fewest, one at least, that hold it
-abbrev pub DigitsIn : (n k : ℕ) → Type 0
-DigitsIn n k = IsDigitCount 10 1 n k
-
--- a signed word without its sign: from 2^63 on it stands for itself less 2^64
-unfoldable pub magnitude_of : ℕ → ℕ
-magnitude_of w = cond (ltb w half) w (word - w)
+-- a signed word: from 2^63 on it stands for itself less 2^64
+unfoldable pub signed_of : ℕ → ℤ
+signed_of w = cond (ltb w half) (pos w) (neg_ℤ (pos (word - w)))
 
 -- a byte's two hexadecimal digits
 abbrev pub hex_byte : ℕ → List ℕ
@@ -23,3 +21,7 @@ four_bytes_of w = hex_byte (w % 256) ++ (hex_byte (w / 256 % 256) ++ (hex_byte (
 -- a key's first four bytes, two dots, its last four
 unfoldable pub short_key : Key → List ℕ
 short_key k = four_bytes_of k.0 ++ (46 ∷ 46 ∷ four_bytes_of (k.3 / 2 ^ 32))
+
+-- the same, or `none` for the zero key
+unfoldable pub short_text : Key → List ℕ
+short_text k = cond (same_key k zero_key) (codes "none") (short_key k)

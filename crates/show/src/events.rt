@@ -1,93 +1,49 @@
 // The table's lines on the newest events, the newest first.
-ghost use Rattle.std.specs.Prelude.{◌≡◌, ◌≤◌, ◌<◌, length};
-ghost use Rattle.image.specs.Layout.{event_epoch, event_y, slot, read};
-ghost use Rattle.image.specs.Seats.{Sized};
-ghost use Rattle.journal.specs.Held.{Writable};
+ghost use Rattle.std.specs.Prelude.{◌≡◌};
+ghost use Rattle.image.specs.Pool.{words_of};
+ghost use Rattle.show.specs.Rows.{event_row};
 
-use crate::cells;
 use event_walk::newest;
-use journal::output;
+use image::pool_data::PoolData;
 use journal::output::Pen;
+use std::fmt;
+use std::fmt::Write;
 
-// The epoch of the event in slot t.
-pub fn epoch(pool: &[u64], p: usize, e: usize, t: usize) -> u64
-    requires { Sized pool.now p e × (t < e) }
-    ensures { result ≡ read p e pool.now (slot t event_epoch) }
-{
-    let at = image::event_at(p, t);
-    pool[at]
+// What an event's line says.
+#[derive(Clone, Copy)]
+pub struct EventRow {
+    pub event: u64,
+    pub slot: usize,
+    pub epoch: u64,
+    pub y: u64,
 }
 
-// The y of the event in slot t.
-pub fn y(pool: &[u64], p: usize, e: usize, t: usize) -> u64
-    requires { Sized pool.now p e × (t < e) }
-    ensures { result ≡ read p e pool.now (slot t event_y) }
+// What is shown of an event by its number.
+pub fn event_row(pool: PoolData<'_>, event: u64) -> EventRow
+    ensures { result ≡ event_row pool.entry.e (words_of pool.entry) event }
 {
-    let at = image::event_at(p, t);
-    pool[at + 1]
+    let slot = (event % pool.e as u64) as usize;
+    EventRow {
+        event,
+        slot,
+        epoch: pool.event_epoch(slot),
+        y: pool.event_y(slot),
+    }
 }
 
-// The epoch and the y of the event in slot t.
-fn figures(pool: &[u64], p: usize, e: usize, t: usize, out: &mut [u8], pen: Pen) -> Pen
-    requires { Writable pen.at (length out.old) × Sized pool.now p e × (t < e) }
-    ensures { result.at ≤ length out.old }
-{
-    let its_epoch = epoch(pool, p, e, t);
-    let passed = cells::number(&mut out[..], pen, its_epoch, 20);
-    let its_y = y(pool, p, e, t);
-    cells::number(out, passed, its_y, 20)
-}
-
-// The line of event k, which stands in slot t.
-fn row(pool: &[u64], p: usize, e: usize, k: u64, t: usize, out: &mut [u8], pen: Pen) -> Pen
-    requires { Writable pen.at (length out.old) × Sized pool.now p e × (t < e) }
-    ensures { result.at ≤ length out.old }
-{
-    let number = cells::number(&mut out[..], pen, k, 20);
-    let place = cells::number(&mut out[..], number, t as u64, 20);
-    let whole = figures(pool, p, e, t, &mut out[..], place);
-    output::byte(out, whole, b'\n')
-}
-
-// The line of event k.
-fn event(pool: &[u64], p: usize, e: usize, k: u64, out: &mut [u8], pen: Pen) -> Pen
-    requires { Writable pen.at (length out.old) × Sized pool.now p e }
-    ensures { result.at ≤ length out.old }
-{
-    let t = (k % (e as u64)) as usize;
-    row(pool, p, e, k, t, out, pen)
-}
-
-// The heading of the events.
-fn heading(out: &mut [u8], pen: Pen) -> Pen
-    requires { Writable pen.at (length out.old) }
-    ensures { result.at ≤ length out.old }
-{
-    let first = output::text(
-        &mut out[..],
-        pen,
-        b"                 event                  slot",
-    );
-    output::text(
-        out,
-        first,
-        b"                 epoch                     y\n",
-    )
+// An event's line.
+fn line(row: EventRow, pen: &mut Pen) -> fmt::Result {
+    write!(pen, "  {:>20}  {:>20}", row.event, row.slot)?;
+    writeln!(pen, "  {:>20}  {:>20}", row.epoch, row.y)
 }
 
 // The heading, and the lines of the newest events, at most e.
-pub fn rows(pool: &[u64], p: usize, e: usize, out: &mut [u8], pen: Pen) -> Pen
-    requires { Writable pen.at (length out.old) × Sized pool.now p e }
-    ensures { result.at ≤ length out.old }
-{
-    let at = image::num_events_at(p, e);
-    let mut next = heading(&mut out[..], pen);
-    let mut left = newest::walk_length(pool, p, e);
-    let mut k = pool[at];
-    while 0 < left {
-        left -= 1;
-        k -= 1;
-        next = event(pool, p, e, k, &mut out[..], next);
+pub(crate) fn rows(pool: PoolData<'_>, pen: &mut Pen) -> fmt::Result {
+    pen.text("                 event                  slot");
+    pen.text("                 epoch                     y\n");
+    let newest = newest::walk_length(pool);
+    for event in (0..pool.num_events()).rev().take(newest) {
+        line(event_row(pool, event), pen)?;
     }
-    next
+    Ok(())
 }

@@ -15,14 +15,17 @@
 // key `none`. Shown are the seats that have a publisher, those behind an empty one too, and the newest events, the newest first.
 #![tactic(auto)]
 
-ghost use Rattle.std.specs.Prelude.{◌≡◌, ◌≤◌, length};
-ghost use Rattle.image.specs.Seats.{Sized};
-ghost use Rattle.journal.specs.Held.{Writable};
+ghost use Rattle.std.specs.Prelude.{◌≡◌, ◌≤◌};
+ghost use Rattle.arrayvec.specs.ArrayVec.{array_vec_len};
+ghost use Rattle.journal.specs.declared.output.TheConstants.{ROOM};
 ghost use Rattle.show.specs.Rows.{lines_of};
 
 use event_walk::newest;
+use image::pool_data::PoolData;
+use journal::answer;
 use journal::output::Pen;
-use journal::{answer, output};
+use std::fmt;
+use std::fmt::Write;
 
 pub mod cells;
 pub mod events;
@@ -36,68 +39,33 @@ fn lines(seats: usize, events: usize) -> usize
     6 + 2 * seats + events
 }
 
-// A line of one figure, behind its name.
-fn figure(out: &mut [u8], pen: Pen, name: &[u8], n: u64) -> Pen
-    requires { Writable pen.at (length out.old) }
-    ensures { result.at ≤ length out.old }
-{
-    let named = output::text(&mut out[..], pen, name);
-    let told = output::number(&mut out[..], named, n);
-    output::byte(out, told, b'\n')
-}
-
-// How many of the seats have a publisher.
-fn seated(out: &mut [u8], pen: Pen, count: usize, p: usize) -> Pen
-    requires { Writable pen.at (length out.old) }
-    ensures { result.at ≤ length out.old }
-{
-    let name = output::text(&mut out[..], pen, b"  seats       ");
-    let told = output::number(&mut out[..], name, count as u64);
-    figure(out, told, b" of ", p as u64)
-}
-
 // The lines on the pool as a whole.
-fn head(pool: &[u64], p: usize, e: usize, count: usize, out: &mut [u8], pen: Pen) -> Pen
-    requires { Writable pen.at (length out.old) × Sized pool.now p e }
-    ensures { result.at ≤ length out.old }
-{
-    let at = image::num_events_at(p, e);
-    let last = figure(&mut out[..], pen, b"  last epoch  ", pool[0]);
-    let claimable = figure(&mut out[..], last, b"  claimable   ", pool[1]);
-    let events = figure(&mut out[..], claimable, b"  events      ", pool[at]);
-    seated(out, events, count, p)
+fn head(pool: PoolData<'_>, seats: usize, pen: &mut Pen) -> fmt::Result {
+    writeln!(pen, "  last epoch  {}", pool.last_updated_epoch())?;
+    writeln!(pen, "  claimable   {}", pool.claimable_rewards())?;
+    writeln!(pen, "  events      {}", pool.num_events())?;
+    writeln!(pen, "  seats       {seats} of {}", pool.p)
 }
 
-// The first line, and the lines on the pool as a whole.
-fn top(pool: &[u64], p: usize, e: usize, out: &mut [u8], pen: Pen) -> Pen
-    requires { Writable pen.at (length out.old) × Sized pool.now p e }
-    ensures { result.at ≤ length out.old }
-{
-    let count = seats::occupied(pool, p, e);
-    let newest = newest::walk_length(pool, p, e);
-    let n = lines(count, newest);
-    let ok = answer::ok(&mut out[..], pen, &[n as u64]);
-    head(pool, p, e, count, out, ok)
-}
-
-// The answer on an image that is in order.
-fn table(pool: &[u64], p: usize, e: usize, out: &mut [u8], pen: Pen) -> Pen
-    requires { Writable pen.at (length out.old) × Sized pool.now p e }
-    ensures { result.at ≤ length out.old }
-{
-    let first = top(pool, p, e, &mut out[..], pen);
-    let middle = seats::rows(pool, p, e, &mut out[..], first);
-    events::rows(pool, p, e, out, middle)
+// All lines behind the first.
+fn table(pool: PoolData<'_>, seats: usize, pen: &mut Pen) -> fmt::Result {
+    head(pool, seats, pen)?;
+    seats::rows(pool, pen)?;
+    events::rows(pool, pen)
 }
 
 // The answer to `show`: refusal 1, or the table.
-pub fn show(pool: &[u64], p: usize, e: usize, out: &mut [u8], pen: Pen) -> Pen
-    requires { Writable pen.at (length out.old) }
-    ensures { result.at ≤ length out.old }
+pub fn show(words: &[u64], p: usize, e: usize, pen: &mut Pen)
+    ensures { array_vec_len pen.new.buffer ≤ ROOM }
 {
-    let right = image::checked(pool, p, e);
-    if !right {
-        return answer::refused(out, pen, 1);
+    match PoolData::check(words, p, e) {
+        Err(refusal) => answer::refused(pen, refusal),
+        Ok(pool) => {
+            let seats = seats::occupied(pool);
+            let count = lines(seats, newest::walk_length(pool));
+            answer::ok(pen, &[count as u64]);
+            // A pen takes all text.
+            let _ = table(pool, seats, pen);
+        }
     }
-    table(pool, p, e, out, pen)
 }

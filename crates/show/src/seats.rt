@@ -1,153 +1,92 @@
 // The table's lines on seats: two for each that has a publisher.
-ghost use Rattle.std.specs.Prelude.{◌≡◌, not, ◌≤◌, ◌<◌, length};
-ghost use Rattle.types.specs.Base.{to_nat};
-ghost use Rattle.image.specs.Layout.{read};
-ghost use Rattle.image.specs.Seats.{Sized, empty_seat};
-ghost use Rattle.journal.specs.Held.{Writable};
-ghost use Rattle.show.specs.Rows.{occupied_seats};
+ghost use Rattle.std.specs.Prelude.{◌≡◌, not, ◌≤◌, ◌<◌};
+ghost use Rattle.image.specs.Pool.{words_of};
+ghost use Rattle.image.specs.Seats.{empty_seat};
+ghost use Rattle.show.specs.Rows.{occupied_seats, seat_row};
 
-use crate::cells;
+use crate::cells::{ShortKey, signed};
 use delegation::DelegationState;
-use image::changes::num_slash_events;
-use image::seats;
-use journal::output;
+use image::pool_data::PoolData;
 use journal::output::Pen;
-use positions::{Key, same_key};
+use positions::Key;
+use std::fmt;
+use std::fmt::Write;
 
-// Whether seat s has a publisher.
-pub fn has_publisher(pool: &[u64], p: usize, e: usize, s: usize) -> bool
-    requires { Sized pool.now p e × (s < p) }
-    ensures { result ≡ not (empty_seat (read p e pool.now) s) }
-{
-    let publisher = seats::publisher(pool, p, e, s);
-    let empty = same_key(publisher, Key(0, 0, 0, 0));
-    !empty
+// What the two lines of a seat say.
+#[derive(Clone, Copy)]
+pub struct SeatRow {
+    pub seat: usize,
+    pub publisher: Key,
+    pub self_side: DelegationState,
+    pub other_side: DelegationState,
+    pub fee: u64,
+    pub slash_events: u64,
+    pub stake_account: Key,
 }
 
-// 1 where it is so.
-fn one_if(yes: bool) -> usize
-    ensures { (result ≡ to_nat yes) × (result ≤ 1) }
+// Whether seat s has a publisher.
+#[tactic(auto, unfolding(image::specs::Seats::empty_seat, positions::specs::Key::same_key))]
+pub fn has_publisher(pool: PoolData<'_>, s: usize) -> bool
+    requires { s < pool.p }
+    ensures { result ≡ not (empty_seat (words_of pool.entry) s) }
 {
-    if yes {
-        return 1;
-    }
-    0
+    pool.publisher(s) != Key::default()
 }
 
 // How many seats have a publisher.
-pub fn occupied(pool: &[u64], p: usize, e: usize) -> usize
-    requires { Sized pool.now p e }
-    ensures { (result ≡ occupied_seats p (read p e pool.now)) × (result ≤ p) }
+#[tactic(auto, using(crate::proofs::RowsLaws::occupied_none, crate::proofs::RowsLaws::occupied_more))]
+pub fn occupied(pool: PoolData<'_>) -> usize
+    ensures count { result ≡ occupied_seats pool.entry.p (words_of pool.entry) }
+    ensures within { result ≤ pool.entry.p }
 {
     let mut count = 0;
-    let mut s = 0;
-    while s < p {
-        count += one_if(has_publisher(pool, p, e, s));
-        s += 1;
+    for s in 0..pool.p {
+        count += usize::from(has_publisher(pool, s));
     }
     count
 }
 
-// One side's total and change.
-fn side(out: &mut [u8], pen: Pen, side: DelegationState) -> Pen
-    requires { Writable pen.at (length out.old) }
-    ensures { result.at ≤ length out.old }
+// What is shown of seat s.
+pub fn seat_row(pool: PoolData<'_>, s: usize) -> SeatRow
+    requires { s < pool.p }
+    ensures { result ≡ seat_row (words_of pool.entry) s }
 {
-    let total = cells::number(&mut out[..], pen, side.total_delegation.0, 20);
-    cells::signed(out, total, side.delta_delegation)
-}
-
-// The fee and the number of slash events.
-fn fee(pool: &[u64], p: usize, e: usize, s: usize, out: &mut [u8], pen: Pen) -> Pen
-    requires { Writable pen.at (length out.old) × Sized pool.now p e × (s < p) }
-    ensures { result.at ≤ length out.old }
-{
-    let its_fee = seats::delegation_fee(pool, p, e, s);
-    let told = cells::number(&mut out[..], pen, its_fee, 7);
-    let count = num_slash_events(pool, p, e, s);
-    cells::number(out, told, count, 12)
-}
-
-// What stands behind the self side in a seat's first line.
-fn rest(pool: &[u64], p: usize, e: usize, s: usize, out: &mut [u8], pen: Pen) -> Pen
-    requires { Writable pen.at (length out.old) × Sized pool.now p e × (s < p) }
-    ensures { result.at ≤ length out.old }
-{
-    let slashes = fee(pool, p, e, s, &mut out[..], pen);
-    let account = seats::publisher_stake_account(pool, p, e, s);
-    let whole = cells::key(&mut out[..], slashes, account);
-    output::byte(out, whole, b'\n')
-}
-
-// A seat's number and publisher.
-fn publisher(pool: &[u64], p: usize, e: usize, s: usize, out: &mut [u8], pen: Pen) -> Pen
-    requires { Writable pen.at (length out.old) × Sized pool.now p e × (s < p) }
-    ensures { result.at ≤ length out.old }
-{
-    let place = cells::number(&mut out[..], pen, s as u64, 4);
-    let its_key = seats::publisher(pool, p, e, s);
-    cells::key(out, place, its_key)
-}
-
-// A seat's first line: its publisher, the self side, and the rest.
-fn self_line(pool: &[u64], p: usize, e: usize, s: usize, out: &mut [u8], pen: Pen) -> Pen
-    requires { Writable pen.at (length out.old) × Sized pool.now p e × (s < p) }
-    ensures { result.at ≤ length out.old }
-{
-    let named = publisher(pool, p, e, s, &mut out[..], pen);
-    let own = output::text(&mut out[..], named, b"  self ");
-    let stake = seats::self_del_state(pool, p, e, s);
-    let told = side(&mut out[..], own, stake);
-    rest(pool, p, e, s, out, told)
-}
-
-// A seat's second line: the other side.
-fn other_line(pool: &[u64], p: usize, e: usize, s: usize, out: &mut [u8], pen: Pen) -> Pen
-    requires { Writable pen.at (length out.old) × Sized pool.now p e × (s < p) }
-    ensures { result.at ≤ length out.old }
-{
-    let other = output::text(&mut out[..], pen, b"                            other");
-    let stake = seats::del_state(pool, p, e, s);
-    let told = side(&mut out[..], other, stake);
-    output::byte(out, told, b'\n')
-}
-
-// The lines of seat s, none where it has no publisher.
-fn row(pool: &[u64], p: usize, e: usize, s: usize, out: &mut [u8], pen: Pen) -> Pen
-    requires { Writable pen.at (length out.old) × Sized pool.now p e × (s < p) }
-    ensures { result.at ≤ length out.old }
-{
-    if !has_publisher(pool, p, e, s) {
-        return pen;
+    SeatRow {
+        seat: s,
+        publisher: pool.publisher(s),
+        self_side: pool.side(s, true),
+        other_side: pool.side(s, false),
+        fee: pool.delegation_fee(s),
+        slash_events: pool.num_slash_events(s),
+        stake_account: pool.publisher_stake_account(s),
     }
-    let first = self_line(pool, p, e, s, &mut out[..], pen);
-    other_line(pool, p, e, s, out, first)
 }
 
-// The heading of the seats.
-fn heading(out: &mut [u8], pen: Pen) -> Pen
-    requires { Writable pen.at (length out.old) }
-    ensures { result.at ≤ length out.old }
-{
-    let first = output::text(&mut out[..], pen, b"  seat  publisher           side");
-    let sides = output::text(
-        &mut out[..],
-        first,
-        b"                  total                change",
-    );
-    output::text(out, sides, b"      fee  slash events  stake account\n")
+// A seat's two lines.
+fn lines(row: SeatRow, pen: &mut Pen) -> fmt::Result {
+    let publisher = ShortKey(row.publisher);
+    write!(pen, "  {:>4}  {publisher}", row.seat)?;
+    let total = row.self_side.total_delegation.0;
+    let change = signed(row.self_side.delta_delegation);
+    write!(pen, "  self   {total:>20}  {change:>20}")?;
+    let account = ShortKey(row.stake_account);
+    writeln!(pen, "  {:>7}  {:>12}  {account}", row.fee, row.slash_events)?;
+    let total = row.other_side.total_delegation.0;
+    let change = signed(row.other_side.delta_delegation);
+    writeln!(
+        pen,
+        "                            other  {total:>20}  {change:>20}"
+    )
 }
 
 // The heading, and the lines of all seats.
-pub fn rows(pool: &[u64], p: usize, e: usize, out: &mut [u8], pen: Pen) -> Pen
-    requires { Writable pen.at (length out.old) × Sized pool.now p e }
-    ensures { result.at ≤ length out.old }
-{
-    let mut next = heading(&mut out[..], pen);
-    let mut s = 0;
-    while s < p {
-        next = row(pool, p, e, s, &mut out[..], next);
-        s += 1;
+pub(crate) fn rows(pool: PoolData<'_>, pen: &mut Pen) -> fmt::Result {
+    pen.text("  seat  publisher           side                  total                change");
+    pen.text("      fee  slash events  stake account\n");
+    for s in 0..pool.p {
+        if has_publisher(pool, s) {
+            lines(seat_row(pool, s), pen)?;
+        }
     }
-    next
+    Ok(())
 }

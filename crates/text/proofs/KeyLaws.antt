@@ -1,64 +1,82 @@
--- Laws of keys: the turns of a word's loop, and one law for each way out of the reader. Assumes nothing.
-use Prim.Native.Nat.{ℕ, zero, suc, ◌+◌, ◌*◌, ◌-◌, ◌<◌, ◌≤◌, ◌^◌}
-use mathlib.Core.Path.{◌≡◌, refl}
-use mathlib.Core.Bool.{true, false}
-use mathlib.Core.List.{List}
-use lib.ListN.{length, get_or}
-use native.Mathlib.Nat.{pow-le-pow_right, pow-succ'}
-use native.Mathlib.Omega.{arith}
-use borrow.Author.Tests.{eq-eqb, ne_eqb}
-use Rattle.text.specs.declared.KeyRead.TheVariants.{Is, NotKey}
-use Rattle.text.specs.Hex.{nibble_of, all_hex, byte_at}
+-- Laws of a key's words, by the bytes that its digits spell. Assumes nothing.
+use Rattle.std.proofs.Common.{◌≡◌, ℕ, ◌+◌, ◌*◌, ◌<◌, ◌≤◌, List, [], ◌∷◌, zero, suc, Option, None, Some, Bool, true, false, cond, sym, ◌∙◌, lit≤, refl, length, take, drop, get_or, arith}
+use Rattle.std.proofs.lemmas.Grind.{common_steps, elements}
+use Rattle.std.proofs.lemmas.List.{get_or-take, get_or-drop, take_all}
+use Rattle.std.specs.Int.{from_le_bytes, w64}
+use Rattle.text.specs.Hex.{all_hex, byte_at, stored, even_of, bytes_of, spelled}
 use Rattle.text.specs.Key.{low_first, word_at, key_of}
-use Rattle.text.proofs.HexLaws.{hex_at}
 
-byte_lt : (s : List ℕ) (i : ℕ) → all_hex s ≡ true → i + 1 < length s → byte_at s i < 256
-unfolding byte_at
-byte_lt s i h l = omega (arith, hex_at s i h (omega arith), hex_at s (i + 1) h l)
+length-stored : (s : List ℕ) (n : ℕ) (out : List ℕ) → length (stored s n out) ≡ length out
+unfolding stored
+length-stored s zero out = grind arith
+length-stored s (suc n) out = grind (arith, common_steps, length-stored s n out)
 
-low_first_lt : (s : List ℕ) (i n : ℕ) → all_hex s ≡ true → i + n * 2 ≤ length s → low_first s i n < 256 ^ n
-unfolding low_first
-low_first_lt s i zero h l = omega arith
-low_first_lt s i (suc n) h l =
-    let b = byte_lt s i h (omega arith) in
-    let r = low_first_lt s (i + 2) n h (omega arith) in omega (arith, pow-succ' 256 n)
+-- a byte that is stored is the one that its two digits spell
+stored_at : (s : List ℕ) (n : ℕ) (out : List ℕ) (j : ℕ) → j < n → n ≤ length out → get_or (stored s n out) j 0 ≡ byte_at s (j * 2)
+unfolding stored
+stored_at s zero out j h l = absurd (omega arith)
+stored_at s (suc n) out j h l = grind (arith, common_steps, elements, length-stored s n out, stored_at s n out j)
 
--- the loop has the bytes from the ith on, and takes the one before
-module _ (s : List ℕ) (at i total byte : ℕ) (digits : all_hex s ≡ true) (fits : at + 16 ≤ length s) (low : 0 < i) (most : i ≤ 8) where
-  pub word_room : total ≡ low_first s (at + i * 2) (8 - i) → total < 2 ^ 56
-  word_room e =
-      let p : 256 ^ (8 - i) ≤ 256 ^ 7 = let r : 8 - i ≤ 7 = omega arith in pow-le-pow_right (omega arith) r in
-      let q = low_first_lt s (at + i * 2) (8 - i) digits (omega arith) in omega arith
+-- eight bytes as a number, the lowest first
+module _ (l : List ℕ) where
+  low_first_sum :
+      from_le_bytes w64 l
+      ≡ get_or l 0 0 + get_or l 1 0 * 0x100 + get_or l 2 0 * 0x1_0000 + get_or l 3 0 * 0x100_0000 + get_or l 4 0 * 0x1_0000_0000
+      + get_or l 5 0 * 0x100_0000_0000 + get_or l 6 0 * 0x1_0000_0000_0000 + get_or l 7 0 * 0x100_0000_0000_0000
+  low_first_sum = refl
 
-  pub word_byte : byte ≡ nibble_of (get_or s (at + (i - 1) * 2) 0) * 16 + nibble_of (get_or s (at + (i - 1) * 2 + 1) 0) → byte < 256
-  word_byte e = omega (arith, hex_at s (at + (i - 1) * 2) digits (omega arith), hex_at s (at + (i - 1) * 2 + 1) digits (omega arith))
+  word_of : (s : List ℕ) (i : ℕ) → ((j k : ℕ) → j < 8 → k ≡ i + j * 2 → get_or l j 0 ≡ byte_at s k) → from_le_bytes w64 l ≡ low_first s i 8
+  unfolding low_first
+  word_of s i h =
+      let a = h 0 i (omega arith) (omega arith) in
+      let b = h 1 (i + 2) (omega arith) (omega arith) in
+      let c = h 2 (i + 2 + 2) (omega arith) (omega arith) in
+      let d = h 3 (i + 2 + 2 + 2) (omega arith) (omega arith) in
+      let e = h 4 (i + 2 + 2 + 2 + 2) (omega arith) (omega arith) in
+      let f = h 5 (i + 2 + 2 + 2 + 2 + 2) (omega arith) (omega arith) in
+      let g = h 6 (i + 2 + 2 + 2 + 2 + 2 + 2) (omega arith) (omega arith) in
+      let m = h 7 (i + 2 + 2 + 2 + 2 + 2 + 2 + 2) (omega arith) (omega arith) in
+      rw low_first_sum (omega arith)
 
-  pub word_turn :
-      total ≡ low_first s (at + i * 2) (8 - i) →
-      byte ≡ nibble_of (get_or s (at + (i - 1) * 2) 0) * 16 + nibble_of (get_or s (at + (i - 1) * 2 + 1) 0) →
-      byte + 256 * total ≡ low_first s (at + (i - 1) * 2) (8 - (i - 1))
-  unfolding low_first byte_at
-  word_turn t b =
-      let e : 8 - (i - 1) ≡ suc (8 - i) = omega arith in
-      let f : at + (i - 1) * 2 + 2 ≡ at + i * 2 = omega arith in rw (e, f, t, b)
+-- a word of a key is what its sixteen digits spell
+word_is : (s b out : List ℕ) (at : ℕ) → b ≡ stored s 32 out → 32 ≤ length out → at + 8 ≤ 32 → from_le_bytes w64 (take 8 (drop at b)) ≡ low_first s (at * 2) 8
+word_is s b out at e l h =
+    word_of (take 8 (drop at b)) s (at * 2) (λ (j k : ℕ) n q.
+    let r : get_or b (at + j) 0 ≡ byte_at s ((at + j) * 2) = rw e (stored_at s 32 out (at + j) (omega arith) l) in
+    let m : (at + j) * 2 ≡ k = omega arith in
+    rw (get_or-take 8 (drop at b) j 0 n, get_or-drop at b j 0, ← m) r)
 
-pub word_start : (s : List ℕ) (at : ℕ) → 0 ≡ low_first s (at + 8 * 2) 0
-unfolding low_first
-word_start s at = refl
+-- what the bytes of 64 digits come to
+module _ (s : List ℕ) (long : length s ≡ 64) where
+  bytes_are : bytes_of s 32 ≡ cond (all_hex s) (Some 32) None
+  unfolding bytes_of even_of
+  bytes_are = let e : take 64 s ≡ s = take_all 64 s (omega arith) in rw (e, long)
 
-pub word_end : (s : List ℕ) (at i total : ℕ) → i ≤ 0 → total ≡ low_first s (at + i * 2) (8 - i) → total ≡ word_at s at
-word_end s at i total h t = let e : at + i * 2 ≡ at = omega arith in let f : 8 - i ≡ 8 = omega arith in rw (e, f) at t
-
-module _ (s : List ℕ) where
-  pub key_length : (length s ≡ 64 → ⊥) → NotKey ≡ key_of s
+  key_are : key_of s ≡ cond (all_hex s) (Some (word_at s 0 ∷ word_at s 16 ∷ word_at s 32 ∷ word_at s 48 ∷ [])) None
   unfolding key_of
-  key_length h = rw (ne_eqb _ _ h)
+  key_are = rw long
 
-  pub key_digits : length s ≡ 64 → false ≡ all_hex s → NotKey ≡ key_of s
-  unfolding key_of
-  key_digits h e = rw (eq-eqb _ _ h, ← e)
+  pub key_none : bytes_of s 32 ≡ None → None ≡ key_of s
+  key_none e = rw key_are (go (all_hex s) _ (sym bytes_are ∙ e))
+    where
+      go : (h : Bool) (k : List ℕ) → cond {A = Option ℕ} h (Some 32) None ≡ None → None ≡ cond h (Some k) None
+      go true k q = cc
+      go false k q = refl
 
-  pub key_is :
-      (a b c d : ℕ) → length s ≡ 64 → true ≡ all_hex s → a ≡ word_at s 0 → b ≡ word_at s 16 → c ≡ word_at s 32 → d ≡ word_at s 48 → Is a b c d ≡ key_of s
-  unfolding key_of
-  key_is a b c d h t p q r u = rw (eq-eqb _ _ h, ← t, p, q, r, u)
+  pub key_some :
+      (n a b c d : ℕ) (bytes out : List ℕ) → length out ≡ 32 → bytes_of s 32 ≡ Some n → bytes ≡ spelled (Some n) s out →
+      a ≡ from_le_bytes w64 (take 8 (drop 0 bytes)) → b ≡ from_le_bytes w64 (take 8 (drop 8 bytes)) →
+      c ≡ from_le_bytes w64 (take 8 (drop 16 bytes)) → d ≡ from_le_bytes w64 (take 8 (drop 24 bytes)) → Some (a ∷ b ∷ c ∷ d ∷ []) ≡ key_of s
+  unfolding spelled
+  key_some n a b c d bytes out l e f i j k m = rw key_are (go (all_hex s) (sym bytes_are ∙ e))
+    where
+      go : (h : Bool) → cond {A = Option ℕ} h (Some 32) None ≡ Some n → Some (a ∷ b ∷ c ∷ d ∷ []) ≡ cond h (Some (word_at s 0 ∷ word_at s 16 ∷ word_at s 32 ∷ word_at s 48 ∷ [])) None
+      go true q =
+          let g : bytes ≡ stored s 32 out = cc in
+          let w = λ (at : ℕ) (t : at + 8 ≤ 32). word_is s bytes out at g (omega arith) t in
+          let w0 = i ∙ w 0 (lit≤ tt) in
+          let w1 = j ∙ w 8 (lit≤ tt) in
+          let w2 = k ∙ w 16 (lit≤ tt) in
+          let w3 = m ∙ w 24 (lit≤ tt) in
+          rw (w0, w1, w2, w3)
+      go false q = cc

@@ -1,6 +1,5 @@
-pub mod DecimalLaws
+pub mod Fixed
 pub mod HexLaws
 pub mod KeyLaws
-pub mod ItemsLaws
+pub mod LaidLaws
 pub mod WordsLaws
-pub mod Fixed

@@ -1,179 +1,120 @@
 // Fields of a journal, read from their bytes.
 #![tactic(auto)]
 
-ghost use Rattle.std.specs.Prelude.{◌≡◌, true, ◌+◌, ◌*◌, ◌≤◌, ◌<◌, min, length};
-ghost use Rattle.text.specs.Decimal.{number_of};
-ghost use Rattle.text.specs.Hex.{nibble_of, all_hex, bytes_of, spelled};
-ghost use Rattle.text.specs.Key.{word_at, key_of};
+ghost use Rattle.std.specs.Prelude.{◌≡◌, ◌+◌, ◌<◌, ◌≤◌, length, take, drop, IfSome};
+ghost use Rattle.std.specs.Int.{from_le_bytes, w64};
+ghost use Rattle.text.specs.Decimal.{next_of, number_of};
+ghost use Rattle.text.specs.Hex.{nibble_of, pair_of, all_hex, bytes_of, spelled};
+ghost use Rattle.text.specs.Key.{key_of};
 
 pub mod items;
 
-#[derive(Drop)]
-pub enum Number {
-    Value(u64),
+#[derive(Clone, Copy, Debug, PartialEq, Eq)]
+pub enum NumberError {
     NoDigits,
     NotDigit,
     TooLarge,
 }
 
-fn widened(b: u8) -> u64
-    ensures { (result ≡ b) × (result < 256) }
+// The number with one more digit behind it.
+#[tactic(auto, unfolding(crate::specs::Decimal::next_of))]
+fn next(number: u64, digit: u8) -> Result<u64, NumberError>
+    ensures { result ≡ next_of number digit }
 {
-    b as u64
+    if !digit.is_ascii_digit() {
+        return Err(NumberError::NotDigit);
+    }
+    let Some(tens) = number.checked_mul(10) else {
+        return Err(NumberError::TooLarge);
+    };
+    tens.checked_add(u64::from(digit - b'0'))
+        .ok_or(NumberError::TooLarge)
 }
 
 // The number that the bytes spell in decimal.
-pub fn decimal(s: &[u8]) -> Number
+#[tactic(auto, unfolding(crate::specs::Decimal::onward, crate::specs::Decimal::number_of))]
+pub fn decimal(s: &[u8]) -> Result<u64, NumberError>
     ensures { result ≡ number_of s.now }
 {
-    if s.len() == 0 {
-        return Number::NoDigits;
+    if s.is_empty() {
+        return Err(NumberError::NoDigits);
     }
-    let mut total: u64 = 0;
-    let mut i = 0;
-    while i < s.len() {
-        let b = widened(s[i]);
-        if b < 48 {
-            return Number::NotDigit;
-        }
-        if 57 < b {
-            return Number::NotDigit;
-        }
-        let d = b - 48;
-        if 1844674407370955161 < total {
-            return Number::TooLarge;
-        }
-        let tens = total * 10;
-        if 0xffff_ffff_ffff_ffff - tens < d {
-            return Number::TooLarge;
-        }
-        total = tens + d;
-        i += 1;
+    let mut number = 0;
+    for digit in s {
+        number = next(number, *digit)?;
     }
-    Number::Value(total)
+    Ok(number)
 }
 
-// The value of a hexadecimal digit in either case, and 16 for any other byte.
-pub fn nibble(b: u8) -> u64
-    ensures { (result ≡ nibble_of b) × (result ≤ 16) }
+// The value of a hexadecimal digit in either case.
+#[tactic(auto, unfolding(crate::specs::Hex::nibble_of))]
+pub fn nibble(b: u8) -> Option<u64>
+    ensures value { result ≡ nibble_of b }
+    ensures below { IfSome result (λ value. value < 16) }
 {
-    let x = widened(b);
-    if x < 48 {
-        return 16;
-    }
-    if x < 58 {
-        return x - 48;
-    }
-    if x < 65 {
-        return 16;
-    }
-    if x < 71 {
-        return x - 55;
-    }
-    if x < 97 {
-        return 16;
-    }
-    if x < 103 {
-        return x - 87;
-    }
-    16
+    let value = match b {
+        b'0'..=b'9' => b - b'0',
+        b'A'..=b'F' => b - b'A' + 10,
+        b'a'..=b'f' => b - b'a' + 10,
+        _ => return None,
+    };
+    Some(u64::from(value))
 }
 
 // Whether every byte is a hexadecimal digit.
+#[tactic(auto, unfolding(crate::specs::Hex::all_hex))]
 pub fn all_hex(s: &[u8]) -> bool
     ensures { result ≡ all_hex s.now }
 {
-    let mut i = 0;
-    while i < s.len() {
-        if nibble(s[i]) == 16 {
-            return false;
-        }
-        i += 1;
-    }
-    true
+    s.iter().all(|b| nibble(*b).is_some())
 }
 
-// The byte that two digits spell; at most 272, which no digits reach.
-pub fn pair(high: u8, low: u8) -> u64
-    ensures { (result ≡ nibble_of high * 16 + nibble_of low) × (result ≤ 272) }
+// The byte that two hexadecimal digits spell.
+#[tactic(auto, unfolding(crate::specs::Hex::pair_of))]
+pub fn pair(high: u8, low: u8) -> Option<u8>
+    ensures { result ≡ pair_of high low }
 {
-    let h = nibble(high);
-    let l = nibble(low);
-    h * 16 + l
+    let high = nibble(high)?;
+    let low = nibble(low)?;
+    Some((high * 16 + low) as u8)
 }
 
-#[derive(Drop)]
-pub enum KeyRead {
-    Is(u64, u64, u64, u64),
-    NotKey,
-}
-
-// The word that 16 digits from `at` on spell, its lowest byte first.
-fn word(s: &[u8], at: usize) -> u64
-    requires { (all_hex s.now ≡ true) × (at + 16 ≤ length s.now) }
-    ensures { result ≡ word_at s.now at }
+// The word of the eight bytes from `at` on, the lowest first.
+fn word(bytes: &[u8], at: usize) -> u64
+    requires { at + 8 ≤ length bytes.now }
+    ensures { result ≡ from_le_bytes w64 (take 8 (drop at bytes.now)) }
 {
-    let mut total: u64 = 0;
-    let mut i = 8;
-    while 0 < i {
-        i -= 1;
-        let j = at + i * 2;
-        let byte = pair(s[j], s[j + 1]);
-        total = byte + 256 * total;
-    }
-    total
+    let mut word = [0; 8];
+    word.copy_from_slice(&bytes[at..at + 8]);
+    u64::from_le_bytes(word)
 }
 
-// A key of 64 hexadecimal digits, as four words.
-pub fn key(s: &[u8]) -> KeyRead
+// A key of 64 hexadecimal digits, as four words, each with its lowest byte first.
+#[tactic(auto, unfolding(crate::specs::Key::key_of))]
+pub fn key(s: &[u8]) -> Option<[u64; 4]>
     ensures { result ≡ key_of s.now }
 {
     if s.len() != 64 {
-        return KeyRead::NotKey;
+        return None;
     }
-    if all_hex(s) {
-        let a = word(s, 0);
-        let b = word(s, 16);
-        let c = word(s, 32);
-        let d = word(s, 48);
-        return KeyRead::Is(a, b, c, d);
-    }
-    KeyRead::NotKey
-}
-
-#[derive(Drop)]
-pub enum BytesRead {
-    Count(usize),
-    NotBytes,
-}
-
-// How many of n digits there is room for, two to a byte.
-fn fitting(n: usize, room: usize) -> usize
-    ensures { result ≡ min (room * 2) n }
-{
-    if n / 2 < room {
-        return n;
-    }
-    room * 2
+    let mut key = [0; 32];
+    bytes(s, &mut key)?;
+    Some([word(&key, 0), word(&key, 8), word(&key, 16), word(&key, 24)])
 }
 
 // Hexadecimal digits as bytes, put at the start of `out`; what is beyond the room is passed over.
-pub fn bytes(s: &[u8], out: &mut [u8]) -> BytesRead
-    ensures { (result ≡ bytes_of s.now (length out.old)) × (out.new ≡ spelled result s.now out.old) }
+#[tactic(auto, using(std::proofs::lemmas::List::take_min, crate::proofs::HexLaws::hex_pair), unfolding(crate::specs::Hex::bytes_of, crate::specs::Hex::even_of, crate::specs::Hex::spelled, crate::specs::Hex::stored, crate::specs::Hex::byte_at))]
+pub fn bytes(s: &[u8], out: &mut [u8]) -> Option<usize>
+    ensures count { result ≡ bytes_of s.now (length out.old) }
+    ensures image { out.new ≡ spelled result s.now out.old }
 {
-    let digits = fitting(s.len(), out.len());
-    let n = digits / 2;
-    if n * 2 != digits {
-        return BytesRead::NotBytes;
+    let digits = &s[..(out.len() * 2).min(s.len())];
+    if digits.len() % 2 != 0 || !all_hex(digits) {
+        return None;
     }
-    if all_hex(&s[..digits]) {
-        let mut i = 0;
-        while i < n {
-            let j = i * 2;
-            out[i] = pair(s[j], s[j + 1]) as u8;
-            i += 1;
-        }
-        return BytesRead::Count(n);
+    let count = digits.len() / 2;
+    for i in 0..count {
+        out[i] = pair(digits[i * 2], digits[i * 2 + 1]).unwrap();
     }
-    BytesRead::NotBytes
+    Some(count)
 }

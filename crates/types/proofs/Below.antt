@@ -28,6 +28,10 @@ or_right : (a b : Bool) → b ≡ true → (a || b) ≡ true
 or_right true b e = refl
 or_right false b e = e
 
+or_false : (a b : Bool) → b ≡ false → (a || b) ≡ true → a ≡ true
+or_false true b q e = refl
+or_false false b q e = absurd (let z : false ≡ true = sym q ∙ e in cc)
+
 -- ---- a sum
 
 pub sum_none : (f : ℕ → ℕ) → 0 ≡ sum_below 0 f
@@ -163,6 +167,23 @@ module _ (f : ℕ → Bool) where
       go : Dec (i ≡ n) → (i < n → any_below n f ≡ true) → (any_below n f || f n) ≡ true
       go (yes q) r = or_right (any_below n f) (f n) (ap f (sym q) ∙ e)
       go (no q) r = or_left (any_below n f) (f n) (r (omega arith))
+
+pub any_same : (f g : ℕ → Bool) (n : ℕ) → ((i : ℕ) → i < n → f i ≡ g i) → any_below n f ≡ any_below n g
+unfolding any_below
+any_same f g zero h = refl
+any_same f g (suc n) h = rw (any_same f g n (λ i l. h i (omega arith)), h n (omega arith))
+
+-- the number that a test holds of
+pub any_found : (f : ℕ → Bool) (n : ℕ) → any_below n f ≡ true → (i : ℕ) × (i < n) × (f i ≡ true)
+unfolding any_below
+any_found f zero e = absurd cc
+any_found f (suc n) e = go (f n) refl (any_found f n)
+  where
+    go : (t : Bool) → f n ≡ t → (any_below n f ≡ true → (i : ℕ) × (i < n) × (f i ≡ true)) → (i : ℕ) × (i < suc n) × (f i ≡ true)
+    go true q r = (n, omega arith, q)
+    go false q r =
+        let x : (i : ℕ) × (i < n) × (f i ≡ true) = r (or_false (any_below n f) (f n) q e) in
+        (x.0, omega (arith, x.1), x.2)
 
 -- ---- a count
 

@@ -15,7 +15,7 @@ use lib.ListN.{length, get_or, set, replicate, get_or-replicate}
 use lib.Seq.{get_or-set_same, get_or-set_other}
 use borrow.Author.Tests.{lt-ltb, le-ltb, ltb-true, ltb-false, eqb-true, eqb-false}
 use Rattle.types.specs.Base.{count_below, to_nat}
-use Rattle.types.specs.BoolArray.{bit_at, marked, with_mark, marked_rows, OnesOf}
+use Rattle.types.specs.BoolArray.{bit_at, marked, with_mark, marked_rows}
 use Rattle.types.proofs.Below.{count_none, count_more}
 
 -- ---- one law for each way out of get and set
@@ -42,6 +42,8 @@ module _ (words : List ℕ) (i : ℕ) where
         shl_exact {a = 1} 1 (i % 64) 64 (omega arith) (omega (arith, mod-lt i {m = 64} (omega arith))),
         one-mul (2 ^ (i % 64)),
       )
+
+pub ruleset marks = (get_past, get_bit, set_past, set_bit)
 
 -- ---- the count
 
@@ -107,10 +109,10 @@ pub rows_none : (words : List ℕ) → 0 ≡ count_below (0 * 64) (marked words)
 rows_none words = sym (count_none (marked words))
 
 -- one word more is counted
-pub rows_more : (words : List ℕ) (k n r : ℕ) → k < 16 → n ≡ count_below (k * 64) (marked words) → OnesOf (get_or words k 0) r
-    → n + r ≡ count_below ((k + 1) * 64) (marked words)
-rows_more words k n r hk e o =
-    rw (e, o.counts, ← mod-eq_of_lt o.fits)
+pub rows_more : (words : List ℕ) (k n : ℕ) → k < 16 → n ≡ count_below (k * 64) (marked words) → get_or words k 0 < 2 ^ 64
+    → n + ones (get_or words k 0) ≡ count_below ((k + 1) * 64) (marked words)
+rows_more words k n hk e fits =
+    rw (e, ← mod-eq_of_lt fits)
     (sym (partial words k 64 hk (omega arith)) ∙ ap (λ (m : ℕ). count_below m (marked words)) (sizes k))
   where
     sizes : (j : ℕ) → j * 64 + 64 ≡ (j + 1) * 64

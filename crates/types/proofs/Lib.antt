@@ -1,4 +1,5 @@
 pub mod Below
+pub mod ListLaws
 pub mod MulDivLaws
 pub mod WideLaws
 pub mod BoolArrayLaws

@@ -5,10 +5,11 @@ use native.Mathlib.Nat.{mul-le-mul, div-add-mod', mod-lt, lt_of_mul-lt-mul_right
 use native.Mathlib.Omega.{arith}
 use lib.Arith.{digits_div, digits_mod}
 use mathlib.Core.Bool.{Bool, true, false}
+use Rattle.std.specs.Prelude.{Some, None, if◌then◌else◌}
 use lib.Dec.{ltb}
 use borrow.Author.Tests.{lt-ltb, le-ltb, ltb-true, ltb-false}
 use Rattle.types.specs.MulDiv.{Division, mul_div_of}
-use Rattle.types.specs.declared.mul_div.MulDiv.TheVariants.{Fits, DoesNotFit}
+use Rattle.types.specs.declared.mul_div.Divided.{Divided}
 
 -- two halves have a product that leaves room for two more halves
 pub half_product : (x y : ℕ) → x < 2 ^ 32 → y < 2 ^ 32 → x * y ≤ (2 ^ 32 - 1) * (2 ^ 32 - 1)
@@ -34,16 +35,17 @@ pub remainder_is : (n d q r : ℕ) → Division n d q r → n % d ≡ r
 remainder_is n d q r e = ap (λ (z : ℕ). z % d) (sym e.whole) ∙ digits_mod q e.small
 
 -- the two answers of mul_div_of
-pub fits_at_law : (a b d q r : ℕ) → Division (a * b) d q r → a * b < d * 2 ^ 64 → Fits q r ≡ mul_div_of a b d
+pub fits_at_law : (a b d : ℕ) (r : Divided) → Division (a * b) d r.quotient r.remainder → a * b < d * 2 ^ 64 → Some r ≡ mul_div_of a b d
 unfolding mul_div_of
-fits_at_law a b d q r e h = rw (lt-ltb (a * b) (d * 2 ^ 64) h, quotient_is (a * b) d q r e, remainder_is (a * b) d q r e)
+fits_at_law a b d r e h =
+    rw (lt-ltb (a * b) (d * 2 ^ 64) h, quotient_is (a * b) d r.quotient r.remainder e, remainder_is (a * b) d r.quotient r.remainder e)
 
-pub past_at : (a b d : ℕ) → d * 2 ^ 64 ≤ a * b → DoesNotFit ≡ mul_div_of a b d
+pub past_at : (a b d : ℕ) → d * 2 ^ 64 ≤ a * b → None ≡ mul_div_of a b d
 unfolding mul_div_of
 past_at a b d h = rw (le-ltb (a * b) (d * 2 ^ 64) h)
 
 -- a divisor of 0 does not fit
-pub by_zero : (a b : ℕ) → DoesNotFit ≡ mul_div_of a b 0
+pub by_zero : (a b : ℕ) → None ≡ mul_div_of a b 0
 by_zero a b = past_at a b 0 (omega arith)
 
 -- a number of two words whose upper word is below d is below d * 2 ^ 64, and one whose upper word is not, is not
@@ -53,6 +55,9 @@ upper_below n hi lo d e hl hd = omega arith
 pub upper_above : (n hi lo d : ℕ) → hi * 2 ^ 64 + lo ≡ n → d ≤ hi → d * 2 ^ 64 ≤ n
 upper_above n hi lo d e hd = omega arith
 
+-- the ways out of a division by two words
+pub ruleset divisions = (fits_at_law, past_at, upper_below, upper_above)
+
 -- the division of a single word
 pub one_word : (n hi lo d : ℕ) → hi * 2 ^ 64 + lo ≡ n → hi ≡ 0 → 0 < d → Division n d (lo / d) (lo % d)
 one_word n hi lo d e z hd = record { whole = div-add-mod' lo d ∙ lo_is; small = mod-lt lo hd }
@@ -61,46 +66,47 @@ one_word n hi lo d e z hd = record { whole = div-add-mod' lo d ∙ lo_is; small 
     lo_is = omega arith
 
 -- what an answer of mul_div_of says
-pub record Floor (a b d q r : ℕ) : Type 0 where
-  pub quotient : q ≡ a * b / d
-  pub remainder : r ≡ a * b % d
+pub record Floor (a b d : ℕ) (r : Divided) : Type 0 where
+  pub quotient : r.quotient ≡ a * b / d
+  pub remainder : r.remainder ≡ a * b % d
   pub below : a * b < d * 2 ^ 64
 
+abbrev floor : (a b d : ℕ) → Divided
+floor a b d = record { quotient = a * b / d; remainder = a * b % d }
+
 -- the floor and the remainder are a division
-floor_at : (a b d : ℕ) → a * b < d * 2 ^ 64 → Fits (a * b / d) (a * b % d) ≡ mul_div_of a b d
-floor_at a b d h = fits_at_law a b d (a * b / d) (a * b % d) (record { whole = div-add-mod' (a * b) d; small = mod-lt (a * b) (omega arith) }) h
+floor_at : (a b d : ℕ) → a * b < d * 2 ^ 64 → Some (floor a b d) ≡ mul_div_of a b d
+floor_at a b d h =
+    fits_at_law a b d (floor a b d)
+    (record { whole = div-add-mod' (a * b) d; small = mod-lt (a * b) (omega arith) }) h
 
 -- two factors of one half each: the product is one word
-pub short_at : (a b d : ℕ) → 0 < d → a < 2 ^ 32 → b < 2 ^ 32 → Fits (a * b / d) (a * b % d) ≡ mul_div_of a b d
+pub short_at : (a b d : ℕ) → 0 < d → a < 2 ^ 32 → b < 2 ^ 32 → Some (floor a b d) ≡ mul_div_of a b d
 short_at a b d h ha hb =
     let p : a * b ≤ (2 ^ 32 - 1) * (2 ^ 32 - 1) = half_product a b ha hb in
     floor_at a b d (omega arith)
 
-pub fits_says : (a b d q r : ℕ) → mul_div_of a b d ≡ Fits q r → Floor a b d q r
-fits_says a b d q r e = go (ltb (a * b) (d * 2 ^ 64)) refl
+pub fits_says : (a b d : ℕ) (r : Divided) → mul_div_of a b d ≡ Some r → Floor a b d r
+unfolding mul_div_of
+fits_says a b d r e = go (ltb (a * b) (d * 2 ^ 64)) refl e
   where
-    go : (t : Bool) → ltb (a * b) (d * 2 ^ 64) ≡ t → Floor a b d q r
-    go true h =
-        let f : Fits (a * b / d) (a * b % d) ≡ mul_div_of a b d = floor_at a b d (ltb-true (a * b) (d * 2 ^ 64) h) in
-        record { quotient = cc; remainder = cc; below = ltb-true (a * b) (d * 2 ^ 64) h }
-    go false h =
-        let f : DoesNotFit ≡ mul_div_of a b d = past_at a b d (ltb-false (a * b) (d * 2 ^ 64) h) in
-        let z : ◌≡◌ {A = ℕ} 0 1 = cc in
-        absurd (omega arith)
+    go : (t : Bool) → ltb (a * b) (d * 2 ^ 64) ≡ t → (if t then Some (floor a b d) else None) ≡ Some r
+        → Floor a b d r
+    go true h q = record { quotient = cc; remainder = cc; below = ltb-true (a * b) (d * 2 ^ 64) h }
+    go false h q = absurd cc
 
-pub past_says : (a b d : ℕ) → mul_div_of a b d ≡ DoesNotFit → d * 2 ^ 64 ≤ a * b
-past_says a b d e = go (ltb (a * b) (d * 2 ^ 64)) refl
+pub past_says : (a b d : ℕ) → mul_div_of a b d ≡ None → d * 2 ^ 64 ≤ a * b
+unfolding mul_div_of
+past_says a b d e = go (ltb (a * b) (d * 2 ^ 64)) refl e
   where
-    go : (t : Bool) → ltb (a * b) (d * 2 ^ 64) ≡ t → d * 2 ^ 64 ≤ a * b
-    go true h =
-        let f : Fits (a * b / d) (a * b % d) ≡ mul_div_of a b d = floor_at a b d (ltb-true (a * b) (d * 2 ^ 64) h) in
-        let z : ◌≡◌ {A = ℕ} 0 1 = cc in
-        absurd (omega arith)
-    go false h = ltb-false (a * b) (d * 2 ^ 64) h
+    go : (t : Bool) → ltb (a * b) (d * 2 ^ 64) ≡ t → (if t then Some (floor a b d) else None) ≡ None
+        → d * 2 ^ 64 ≤ a * b
+    go true h q = absurd cc
+    go false h q = ltb-false (a * b) (d * 2 ^ 64) h
 
 -- the same by the floor itself
-pub floor_lt : (a b d q r : ℕ) → Floor a b d q r → a * b / d < 2 ^ 64
-floor_lt a b d q r f = (div-lt_iff_lt-mul {k = d} {x = a * b} {y = 2 ^ 64} (omega (arith, f.below))).1 (omega (arith, f.below))
+pub floor_lt : (a b d : ℕ) (r : Divided) → Floor a b d r → a * b / d < 2 ^ 64
+floor_lt a b d r f = (div-lt_iff_lt-mul {k = d} {x = a * b} {y = 2 ^ 64} (omega (arith, f.below))).1 (omega (arith, f.below))
 
-pub past_floor : (a b d : ℕ) → 0 < d → mul_div_of a b d ≡ DoesNotFit → 2 ^ 64 ≤ a * b / d
+pub past_floor : (a b d : ℕ) → 0 < d → mul_div_of a b d ≡ None → 2 ^ 64 ≤ a * b / d
 past_floor a b d h e = (le-div_iff_mul-le {k = d} {x = 2 ^ 64} {y = a * b} h).1 (omega (arith, past_says a b d e))

@@ -1,11 +1,13 @@
 -- What an accepted outcome tells of the tests and steps in front of it, and what a refused one tells. Assumes nothing.
-use mathlib.Core.Path.{◌≡◌, refl, ap}
+use mathlib.Core.Path.{◌≡◌, refl, sym, ap, ◌∙◌}
 use mathlib.Core.Logic.{◌≢◌}
 use mathlib.Core.Bool.{Bool, true, false}
 use Prim.Native.Nat.{ℕ}
 use native.Mathlib.Omega.{arith}
-use Rattle.std.specs.Prelude.{if◌then◌else◌}
-use Rattle.types.specs.Base.{Outcome, refused, accepted, map_outcome, and_then, after}
+use Rattle.std.specs.Prelude.{if◌then◌else◌, Result, Ok, Err}
+use Rattle.types.specs.Base.{Outcome, refused, accepted, map_outcome, and_then, after, outcome_of, outcome_by}
+use Rattle.types.specs.Refusals.{number_of}
+use Rattle.types.specs.declared.refusals.Refusal.{Refusal}
 
 -- a test on the way was passed, and what comes after it accepts
 pub test_passed : {A : Type 0} (t : Bool) (k : ℕ) (rest : Outcome A) (a : A) → (if t then refused k else rest) ≡ accepted a
@@ -55,3 +57,35 @@ pub then_refused : {A B : Type 0} (f : A → Outcome B) (o : Outcome A) (k : ℕ
     → (a : A) × ((o ≡ accepted a) × (f a ≡ refused k))
 then_refused f (refused n) k h e = let q : n ≡ k = cc in absurd (h (ap refused q))
 then_refused f (accepted a) k h e = (a, (refl, e))
+
+-- ---- a function's result
+
+-- its outcome by a view is what the view takes from its outcome
+pub by_maps : {A B : Type 0} (view : A → B) (r : Result A Refusal) → outcome_by view r ≡ map_outcome view (outcome_of r)
+by_maps view (Ok a) = refl
+by_maps view (Err e) = refl
+
+-- the value of an accepted one, and the error of a refused one
+pub ok_of : {A : Type 0} (r : Result A Refusal) (a : A) → outcome_of r ≡ accepted a → r ≡ Ok a
+ok_of (Ok b) a e = ap Ok cc
+ok_of (Err x) a e = absurd (not_accepted a (number_of x) (sym e))
+
+pub err_of : {A : Type 0} (r : Result A Refusal) (k : ℕ) → outcome_of r ≡ refused k → (x : Refusal) × (r ≡ Err x) × (number_of x ≡ k)
+err_of (Ok a) k e = absurd (not_accepted a k e)
+err_of (Err x) k e = (x, refl, cc)
+
+-- behind a call that `?` asks: its value goes on, its error stands
+module _ {A B : Type 0} (r : Result A Refusal) (o : Outcome A) (f : A → Outcome B) (e : outcome_of r ≡ o) where
+  pub ok_goes_on : (a : A) → r ≡ Ok a → f a ≡ and_then o f
+  ok_goes_on a q = ap (λ (y : Outcome A). and_then y f) (sym (ap outcome_of q) ∙ e)
+
+  pub err_stands : (x : Refusal) → r ≡ Err x → refused (number_of x) ≡ and_then o f
+  err_stands x q = ap (λ (y : Outcome A). and_then y f) (sym (ap outcome_of q) ∙ e)
+
+-- the same by a view
+module _ {A B C : Type 0} (view : A → B) (r : Result A Refusal) (o : Outcome B) (f : B → Outcome C) (e : outcome_by view r ≡ o) where
+  pub viewed_goes_on : (a : A) → r ≡ Ok a → f (view a) ≡ and_then o f
+  viewed_goes_on a q = ap (λ (y : Outcome B). and_then y f) (sym (ap (outcome_by view) q) ∙ e)
+
+  pub viewed_stands : (x : Refusal) → r ≡ Err x → refused (number_of x) ≡ and_then o f
+  viewed_stands x q = ap (λ (y : Outcome B). and_then y f) (sym (ap (outcome_by view) q) ∙ e)

@@ -1,5 +1,7 @@
 -- The words that all definitions share. Assumes nothing.
-use Rattle.std.specs.Prelude.{Bool, true, false, ◌&&◌, ◌||◌, ℕ, zero, suc, ◌+◌, ◌^◌}
+use Rattle.std.specs.Prelude.{Bool, true, false, ◌&&◌, ◌||◌, ℕ, zero, suc, ◌+◌, ◌^◌, Result, Ok, Err}
+use Rattle.types.specs.Refusals.{number_of}
+use Rattle.types.specs.declared.refusals.Refusal.{Refusal}
 
 -- document 01's M: one whole in millionths, the Rust's FRAC_64_MULTIPLIER
 abbrev pub M : ℕ
@@ -27,6 +29,16 @@ map_outcome f (accepted a) = accepted (f a)
 abbrev pub and_then : {A B : Type 0} → Outcome A → (A → Outcome B) → Outcome B
 and_then (refused n) f = refused n
 and_then (accepted a) f = f a
+
+-- a function's result as an outcome: an error is refused with its number
+abbrev pub outcome_of : {A : Type 0} → Result A Refusal → Outcome A
+outcome_of (Ok a) = accepted a
+outcome_of (Err r) = refused (number_of r)
+
+-- the same by what a view takes from its values
+abbrev pub outcome_by : {A B : Type 0} → (A → B) → Result A Refusal → Outcome B
+outcome_by view (Ok a) = accepted (view a)
+outcome_by view (Err r) = refused (number_of r)
 
 abbrev pub is_accepted : {A : Type 0} → Outcome A → Bool
 is_accepted (refused n) = false

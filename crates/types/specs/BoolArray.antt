@@ -1,6 +1,5 @@
 -- Item 1's marks for up to 1,024 rows: row i is bit i mod 64 of word i / 64. Assumes nothing.
-use Rattle.std.specs.Prelude.{Bool, ◌&&◌, List, ◌≡◌, ℕ, ◌/◌, ◌%◌, ◌^◌, ◌≤◌, ◌<◌, ltb, eqb, get_or, set, if◌then◌else◌}
-use Rattle.std.specs.Int.Count.{ones}
+use Rattle.std.specs.Prelude.{Bool, ◌&&◌, List, ℕ, ◌/◌, ◌%◌, ◌^◌, ltb, eqb, get_or, set, if◌then◌else◌}
 use Rattle.std.specs.Int.Bits.{bit_or}
 use Rattle.types.specs.Base.{count_below}
 
@@ -19,9 +18,3 @@ with_mark words i = if ltb i 1_024 then set words (i / 64) (bit_or (get_or words
 -- how many rows are marked
 abbrev pub marked_rows : List ℕ → ℕ
 marked_rows words = count_below 1_024 (marked words)
-
--- r is the number of ones of a word; the word's range is stated besides, for a caller that read the word from an array
-pub record OnesOf (w r : ℕ) : Type 0 where
-  pub counts : r ≡ ones w
-  pub few : r ≤ 64
-  pub fits : w < 2 ^ 64

@@ -1,5 +1,7 @@
 -- Document 01's table 'Turned back': every refusal number by name. The names are the Rust's errors where it has one. Assumes nothing.
 use Rattle.std.specs.Prelude.{ℕ}
+use Rattle.types.specs.declared.refusals.Refusal.{Refusal}
+use Rattle.types.specs.declared.refusals.Refusal.TheVariants.{InvalidImage, InvalidEpoch, InvalidPublisherCaps, InvalidPositions, InvalidY, InvalidDelegationFee, UnverifiedPublisherCaps, PoolDataAlreadyUpToDate, OutdatedPublisherCaps, InvalidPublisher, PublisherNotFound, OutdatedPublisherAccounting, DoesNotFit, ClaimableOverCustody, UnexpectedPositionState, PaymentAboveClaimable, PublisherStakeAccountMismatch, PublisherCustodyAccountRequired, OutdatedDelegatorAccounting, WrongSlashEventOrder, InvalidSlashEventIndex, SlashEventAheadOfNow, PublisherOrRewardAuthorityNeedsToSign, CurrentStakeAccountShouldBeUndelegated, StakeAccountOwnerNeedsToSign, AccountNotEnoughKeys, NewStakeAccountShouldBeUndelegated}
 
 -- image size, P, E, n
 abbrev pub invalid_image : ℕ
@@ -89,3 +91,33 @@ account_not_enough_keys = 26
 
 abbrev pub new_stake_account_should_be_undelegated : ℕ
 new_stake_account_should_be_undelegated = 27
+
+-- the number of a refusal
+abbrev pub number_of : Refusal → ℕ
+number_of InvalidImage = invalid_image
+number_of InvalidEpoch = invalid_epoch
+number_of InvalidPublisherCaps = invalid_publisher_caps
+number_of InvalidPositions = invalid_positions
+number_of InvalidY = invalid_y
+number_of InvalidDelegationFee = invalid_delegation_fee
+number_of UnverifiedPublisherCaps = unverified_publisher_caps
+number_of PoolDataAlreadyUpToDate = pool_data_already_up_to_date
+number_of OutdatedPublisherCaps = outdated_publisher_caps
+number_of InvalidPublisher = invalid_publisher
+number_of PublisherNotFound = publisher_not_found
+number_of OutdatedPublisherAccounting = outdated_publisher_accounting
+number_of DoesNotFit = does_not_fit
+number_of ClaimableOverCustody = claimable_over_custody
+number_of UnexpectedPositionState = unexpected_position_state
+number_of PaymentAboveClaimable = payment_above_claimable
+number_of PublisherStakeAccountMismatch = publisher_stake_account_mismatch
+number_of PublisherCustodyAccountRequired = publisher_custody_account_required
+number_of OutdatedDelegatorAccounting = outdated_delegator_accounting
+number_of WrongSlashEventOrder = wrong_slash_event_order
+number_of InvalidSlashEventIndex = invalid_slash_event_index
+number_of SlashEventAheadOfNow = slash_event_ahead_of_now
+number_of PublisherOrRewardAuthorityNeedsToSign = publisher_or_reward_authority_needs_to_sign
+number_of CurrentStakeAccountShouldBeUndelegated = current_stake_account_should_be_undelegated
+number_of StakeAccountOwnerNeedsToSign = stake_account_owner_needs_to_sign
+number_of AccountNotEnoughKeys = account_not_enough_keys
+number_of NewStakeAccountShouldBeUndelegated = new_stake_account_should_be_undelegated

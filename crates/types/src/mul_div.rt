@@ -2,22 +2,14 @@
 ghost use Rattle.std.specs.Prelude.{◌≡◌, ◌+◌, ◌*◌, ◌^◌, ◌≤◌, ◌<◌};
 ghost use Rattle.types.specs.MulDiv.{Division, mul_div_of};
 
-use crate::wide::product;
-
-const HALF: u64 = 0x1_0000_0000;
+use crate::BASE;
+use crate::wide::Wide;
 
 // A quotient with its remainder.
-#[derive(Drop)]
-struct Divided {
-    quotient: u64,
-    remainder: u64,
-}
-
-// The answer of mul_div: the floor with the remainder, or that the floor is past 64 bits.
-#[derive(Drop)]
-pub enum MulDiv {
-    Fits { quotient: u64, remainder: u64 },
-    DoesNotFit,
+#[derive(Clone, Copy, Debug, PartialEq, Eq)]
+pub struct Divided {
+    pub quotient: u64,
+    pub remainder: u64,
 }
 
 // x + y over d, for an x below d twice and a remainder y.
@@ -46,12 +38,13 @@ fn sum_over(x: u64, y: u64, d: u64) -> Divided
     }
 }
 
-// One digit of long division in base 2^32: h * 2^32 + x over d, for a divisor of one half.
+// One digit of long division in base 2^32: h * 2^32 + x over d, for a divisor of one digit. The long division stays as well,
+// since document 01's list for the port has '`u128` becomes two words'.
 fn digit_short(h: u64, x: u64, d: u64) -> Divided
     requires { (h < d) × (x < 2 ^ 32) × (d < 2 ^ 32) }
     ensures { Division (h * 2 ^ 32 + x) d result.quotient result.remainder }
 {
-    let n = h * HALF + x;
+    let n = h * BASE + x;
     Divided {
         quotient: n / d,
         remainder: n % d,
@@ -65,10 +58,10 @@ fn digit_long(h: u64, x: u64, d: u64) -> Divided
     requires { (h < d) × (x < 2 ^ 32) × (2 ^ 32 ≤ d) }
     ensures { Division (h * 2 ^ 32 + x) d result.quotient result.remainder }
 {
-    let e = d / HALF + 1;
+    let e = d / BASE + 1;
     let q = h / e;
-    let s = h % e * HALF + x;
-    let t = q * (HALF - d % HALF);
+    let s = h % e * BASE + x;
+    let t = q * (BASE - d % BASE);
     let more = t / d;
     let last = sum_over(s, t % d, d);
     let quotient = q + more + last.quotient;
@@ -82,7 +75,7 @@ fn digit(h: u64, x: u64, d: u64) -> Divided
     requires { (h < d) × (x < 2 ^ 32) }
     ensures { Division (h * 2 ^ 32 + x) d result.quotient result.remainder }
 {
-    if d < HALF {
+    if d < BASE {
         digit_short(h, x, d)
     } else {
         digit_long(h, x, d)
@@ -94,52 +87,44 @@ fn divide(hi: u64, lo: u64, d: u64) -> Divided
     requires { hi < d }
     ensures { Division (hi * 2 ^ 64 + lo) d result.quotient result.remainder }
 {
-    let one = digit(hi, lo / HALF, d);
-    let two = digit(one.remainder, lo % HALF, d);
+    let one = digit(hi, lo / BASE, d);
+    let two = digit(one.remainder, lo % BASE, d);
     Divided {
-        quotient: one.quotient * HALF + two.quotient,
+        quotient: one.quotient * BASE + two.quotient,
         remainder: two.remainder,
     }
 }
 
 // The same for factors of any size.
-fn mul_div_wide(a: u64, b: u64, d: u64) -> MulDiv
+#[tactic(auto, using(crate::proofs::MulDivLaws::divisions), unfolding(crate::specs::Wide::wide_of))]
+fn mul_div_wide(a: u64, b: u64, d: u64) -> Option<Divided>
     ensures { result ≡ mul_div_of a b d }
 {
-    let n = product(a, b);
-    let hi = n.hi;
-    let lo = n.lo;
+    let Wide { hi, lo } = Wide::product(a, b);
     if d <= hi {
-        return MulDiv::DoesNotFit;
+        return None;
     }
     if hi == 0 {
-        return MulDiv::Fits {
+        return Some(Divided {
             quotient: lo / d,
             remainder: lo % d,
-        };
+        });
     }
-    let r = divide(hi, lo, d);
-    MulDiv::Fits {
-        quotient: r.quotient,
-        remainder: r.remainder,
-    }
+    Some(divide(hi, lo, d))
 }
 
-// The floor of a * b over d, with its remainder. Two factors of one half each are the usual case,
-// and take one product and one division.
-pub fn mul_div(a: u64, b: u64, d: u64) -> MulDiv
+// The floor of a * b over d, with its remainder, where the floor is a word. Two factors of one
+// digit each are the usual case, and take one product and one division.
+#[tactic(auto, using(crate::proofs::MulDivLaws::short_at))]
+pub fn mul_div(a: u64, b: u64, d: u64) -> Option<Divided>
     ensures { result ≡ mul_div_of a b d }
 {
-    if 0 < d {
-        if a < HALF {
-            if b < HALF {
-                let n = a * b;
-                return MulDiv::Fits {
-                    quotient: n / d,
-                    remainder: n % d,
-                };
-            }
-        }
+    if 0 < d && a < BASE && b < BASE {
+        let n = a * b;
+        return Some(Divided {
+            quotient: n / d,
+            remainder: n % d,
+        });
     }
     mul_div_wide(a, b, d)
 }

@@ -1,54 +1,71 @@
-// Document 01's table 'Turned back': the refusals of the calls, by the names of specs/Refusals.antt.
-pub const INVALID_IMAGE: u64 = 1;
+// Document 01's table 'Turned back': the refusals of the calls, by the names of the Rust's errors where it has one.
+ghost use Rattle.std.specs.Prelude.{◌≡◌};
+ghost use Rattle.types.specs.Refusals.{number_of};
 
-pub const INVALID_EPOCH: u64 = 2;
+// Why a call is refused. Its number is the table's.
+#[derive(Clone, Copy, Debug, PartialEq, Eq)]
+pub enum Refusal {
+    InvalidImage,
+    InvalidEpoch,
+    InvalidPublisherCaps,
+    InvalidPositions,
+    InvalidY,
+    InvalidDelegationFee,
+    UnverifiedPublisherCaps,
+    PoolDataAlreadyUpToDate,
+    OutdatedPublisherCaps,
+    InvalidPublisher,
+    PublisherNotFound,
+    OutdatedPublisherAccounting,
+    DoesNotFit,
+    ClaimableOverCustody,
+    UnexpectedPositionState,
+    PaymentAboveClaimable,
+    PublisherStakeAccountMismatch,
+    PublisherCustodyAccountRequired,
+    OutdatedDelegatorAccounting,
+    WrongSlashEventOrder,
+    InvalidSlashEventIndex,
+    SlashEventAheadOfNow,
+    PublisherOrRewardAuthorityNeedsToSign,
+    CurrentStakeAccountShouldBeUndelegated,
+    StakeAccountOwnerNeedsToSign,
+    AccountNotEnoughKeys,
+    NewStakeAccountShouldBeUndelegated,
+}
 
-pub const INVALID_PUBLISHER_CAPS: u64 = 3;
+impl From<Refusal> for u64 {
+    ghost from_gives = { λ refusal number. number ≡ number_of refusal };
 
-pub const INVALID_POSITIONS: u64 = 4;
-
-pub const INVALID_Y: u64 = 5;
-
-pub const INVALID_DELEGATION_FEE: u64 = 6;
-
-pub const UNVERIFIED_PUBLISHER_CAPS: u64 = 7;
-
-pub const POOL_DATA_ALREADY_UP_TO_DATE: u64 = 8;
-
-pub const OUTDATED_PUBLISHER_CAPS: u64 = 9;
-
-pub const INVALID_PUBLISHER: u64 = 10;
-
-pub const PUBLISHER_NOT_FOUND: u64 = 11;
-
-pub const OUTDATED_PUBLISHER_ACCOUNTING: u64 = 12;
-
-pub const DOES_NOT_FIT: u64 = 13;
-
-pub const CLAIMABLE_OVER_CUSTODY: u64 = 14;
-
-pub const UNEXPECTED_POSITION_STATE: u64 = 15;
-
-pub const PAYMENT_ABOVE_CLAIMABLE: u64 = 16;
-
-pub const PUBLISHER_STAKE_ACCOUNT_MISMATCH: u64 = 17;
-
-pub const PUBLISHER_CUSTODY_ACCOUNT_REQUIRED: u64 = 18;
-
-pub const OUTDATED_DELEGATOR_ACCOUNTING: u64 = 19;
-
-pub const WRONG_SLASH_EVENT_ORDER: u64 = 20;
-
-pub const INVALID_SLASH_EVENT_INDEX: u64 = 21;
-
-pub const SLASH_EVENT_AHEAD_OF_NOW: u64 = 22;
-
-pub const PUBLISHER_OR_REWARD_AUTHORITY_NEEDS_TO_SIGN: u64 = 23;
-
-pub const CURRENT_STAKE_ACCOUNT_SHOULD_BE_UNDELEGATED: u64 = 24;
-
-pub const STAKE_ACCOUNT_OWNER_NEEDS_TO_SIGN: u64 = 25;
-
-pub const ACCOUNT_NOT_ENOUGH_KEYS: u64 = 26;
-
-pub const NEW_STAKE_ACCOUNT_SHOULD_BE_UNDELEGATED: u64 = 27;
+    fn from(refusal: Refusal) -> u64 {
+        match refusal {
+            Refusal::InvalidImage => 1,
+            Refusal::InvalidEpoch => 2,
+            Refusal::InvalidPublisherCaps => 3,
+            Refusal::InvalidPositions => 4,
+            Refusal::InvalidY => 5,
+            Refusal::InvalidDelegationFee => 6,
+            Refusal::UnverifiedPublisherCaps => 7,
+            Refusal::PoolDataAlreadyUpToDate => 8,
+            Refusal::OutdatedPublisherCaps => 9,
+            Refusal::InvalidPublisher => 10,
+            Refusal::PublisherNotFound => 11,
+            Refusal::OutdatedPublisherAccounting => 12,
+            Refusal::DoesNotFit => 13,
+            Refusal::ClaimableOverCustody => 14,
+            Refusal::UnexpectedPositionState => 15,
+            Refusal::PaymentAboveClaimable => 16,
+            Refusal::PublisherStakeAccountMismatch => 17,
+            Refusal::PublisherCustodyAccountRequired => 18,
+            Refusal::OutdatedDelegatorAccounting => 19,
+            Refusal::WrongSlashEventOrder => 20,
+            Refusal::InvalidSlashEventIndex => 21,
+            Refusal::SlashEventAheadOfNow => 22,
+            Refusal::PublisherOrRewardAuthorityNeedsToSign => 23,
+            Refusal::CurrentStakeAccountShouldBeUndelegated => 24,
+            Refusal::StakeAccountOwnerNeedsToSign => 25,
+            Refusal::AccountNotEnoughKeys => 26,
+            Refusal::NewStakeAccountShouldBeUndelegated => 27,
+        }
+    }
+}

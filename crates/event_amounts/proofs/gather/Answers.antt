@@ -1,31 +1,45 @@
-use Rattle.image.specs.Layout.{read}
-use Rattle.event_amounts.proofs.GatherLaws.{gather_end}
-use Rattle.event_amounts.proofs.TurnLaws.{Round, walked_start, round_walked}
-use native.Mathlib.Omega.{arith}
+use Rattle.std.proofs.Common.{arith}
+use Rattle.event_amounts.proofs.ItemLaws.{kept_start, kept_end, kept_reads, kept_other, kept_unfit, kept_walked, kept_past}
 use Rattle.event_amounts.proofs.gather.Goals as goal
+use Rattle.event_amounts.proofs.gather.Goals.{then-all_fit, else-all_fit+in_ok-gathered}
 
-pub loop-i-init : goal.loop-i-init
-loop-i-init c = walked_start _ _ _ _ _ _ _ _ c.next_match-i.ensures
+pub loop-position-init : goal.loop-position-init
+loop-position-init g c = kept_start _ _ _ _ _ _ _ _ c.new-gathered.ensures
 
--- four turns from where the loop stands, which fit
-pub loop-i-preserved : goal.loop-i-preserved
-loop-i-preserved c =
-    let a = c.args in
-    let t = c.loop-i in
-    let round : Round a.e (read a.p a.e a.pool.now) a.words.now a.publisher a.from_epoch a.unlocking_duration
-    c.read_newest-newest.result t.i t.amounts t.drawn t.walks c.turn_of-a.result c.turn_of-b.result c.turn_of-c.result c.turn_of-d.result
-    = record {
-      newest = c.read_newest-newest.ensures;
-      so_far = t.invariant;
-      short = c.requires.1;
-      more = omega (arith, c.loop-i-test.true);
-      one = c.turn_of-a.ensures;
-      two = c.turn_of-b.ensures;
-      three = c.turn_of-c.ensures;
-      four = c.turn_of-d.ensures;
-      fit = rw c.if-not-four_fit.false at c.four_fit.ensures;
-    } in
-    round_walked round _ c.walk_four-walked.ensures
+pub loop-position-preserved-then-not-in_publisher : goal.loop-position-preserved-then-not-in_publisher
+loop-position-preserved-then-not-in_publisher g c =
+    kept_other _ _ _ _ _ _ _ _ _ _ c.loop-position.invariant _ c.position-item.is c.loop-position-test.true c.if-not-in_publisher.ensures
+
+pub returns-in_err-span : goal.returns-in_err-span
+returns-in_err-span g c =
+    rw c.from_residual.ensures
+    (kept_unfit _ _ _ _ _ _ _ _ _ _ c.loop-position.invariant _ c.position-item.is c.loop-position-test.true _ c.position.ensures _ c.read_newest-newest.ensures
+    c.if-not-in_publisher.ensures c.in_err-span.ensures)
+
+pub walk_fitting-requires-clause-reads : goal.walk_fitting-requires-clause-reads
+walk_fitting-requires-clause-reads g c = kept_reads _ _ _ _ _ _ _ _ _ _ c.loop-position.invariant _ c.read_newest-newest.ensures (omega arith)
+
+pub walk-requires : goal.walk-requires
+walk-requires g c = kept_reads _ _ _ _ _ _ _ _ _ _ c.loop-position.invariant _ c.read_newest-newest.ensures (omega arith)
+
+pub returns-in_err-gathered : goal.returns-in_err-gathered
+returns-in_err-gathered g c =
+    rw c.from_residual-in_err-gathered.ensures
+    (kept_past _ _ _ _ _ _ _ _ _ _ c.loop-position.invariant _ c.position-item.is c.loop-position-test.true _ c.position.ensures _ c.read_newest-newest.ensures
+    c.if-not-in_publisher.ensures _ c.in_ok-span.ensures c.in_err-gathered.ensures)
+
+pub loop-position-preserved : goal.loop-position-preserved
+loop-position-preserved g c =
+    elim c.if-all_fit.branch [
+      | then-all_fit w ↦
+          rw w.gathered-is
+          (kept_walked _ _ _ _ _ _ _ _ _ _ c.loop-position.invariant _ c.position-item.is c.loop-position-test.true _ c.position.ensures _
+          c.read_newest-newest.ensures c.if-not-in_publisher.ensures _ c.in_ok-span.ensures _ _ c.saturating_add-drawn.ensures w.walk_fitting.ensures)
+      | else-all_fit+in_ok-gathered w ↦
+          rw w.gathered-is
+          (kept_walked _ _ _ _ _ _ _ _ _ _ c.loop-position.invariant _ c.position-item.is c.loop-position-test.true _ c.position.ensures _
+          c.read_newest-newest.ensures c.if-not-in_publisher.ensures _ c.in_ok-span.ensures _ _ c.saturating_add-drawn.ensures w.in_ok-gathered.ensures)
+    ]
 
 pub returns : goal.returns
-returns c = gather_end _ _ _ _ _ _ _ _ c.loop-i.invariant.ahead.gathering (omega arith)
+returns g c = kept_end _ _ _ _ _ _ _ _ _ _ c.loop-position.invariant (omega arith) (omega arith)

@@ -1,13 +1,7 @@
-use Prim.Native.Nat.{◌-◌, ◌/◌}
-use lib.ListN.{length}
-use Rattle.image.specs.Layout.{read}
-use Rattle.event_amounts.proofs.TurnLaws.{Walked}
+use Rattle.image.specs.Pool.{words_of}
+use Rattle.event_amounts.proofs.ItemLaws.{Kept}
 use Rattle.event_amounts.proofs.gather.Given as goal
 
-abbrev pub invariant-loop-i : goal.invariant-loop-i
-invariant-loop-i l =
-    Walked l.e (read l.p l.e l.pool) l.words l.publisher l.from_epoch l.unlocking_duration l.newest.reads l.i l.amounts l.drawn l.walks
-
-abbrev pub decreases-loop-i : goal.decreases-loop-i
-decreases-loop-i l =
-    length l.words / 9 - l.i
+abbrev pub invariant-loop-position : goal.invariant-loop-position
+invariant-loop-position g l =
+    Kept g.T.AsPosition.as_position l.positions l.pool.e (words_of l.pool) l.publisher l.from_epoch l.unlocking_duration l.position-index l.drawn l.gathered

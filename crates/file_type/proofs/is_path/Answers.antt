@@ -1,13 +1,12 @@
 -- `file_type::is_path` meets its contract. Assumes nothing.
-use Rattle.std.proofs.Common.{arith}
-use Rattle.file_type.proofs.PathLaws.{zero_met, zero_free, all_met}
+use Rattle.std.proofs.Common.{rules, tests, length, eqb, not, lt-ltb}
+use Rattle.std.proofs.lemmas.Iterator.{YieldsList-from_slice}
+use Rattle.std.proofs.lemmas.Iterator.Search.{all_from_yields_List}
+use Rattle.file_type.specs.Path.{is_path}
 use Rattle.file_type.proofs.is_path.Goals as goal
 
-pub returns-then-path-i-eq0 : goal.returns-then-path-i-eq0
-returns-then-path-i-eq0 c = zero_met c.args.path.now c.loop-i.i (omega arith) (omega arith) c.loop-i.invariant
-
-pub loop-i-preserved : goal.loop-i-preserved
-loop-i-preserved c = zero_free c.args.path.now c.loop-i.i (omega arith) c.if-path-i-eq0.false c.loop-i.invariant
-
-pub returns : goal.returns
-returns c = all_met c.args.path.now c.loop-i.i (omega arith) c.loop-i.invariant
+pub returns-then-path-lt-PATH_MAX : goal.returns-then-path-lt-PATH_MAX
+unfolding is_path
+returns-then-path-lt-PATH_MAX c =
+    let all = all_from_yields_List (λ byte. not (eqb byte 0)) _ _ c.all.result c.all.ensures.ran (YieldsList-from_slice c.args.path.now cc) (λ x b q k. search (rules, tests)) in
+    rw (lt-ltb (length c.args.path.now) 4096 c.if-path-lt-PATH_MAX.true) all

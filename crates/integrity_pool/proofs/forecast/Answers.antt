@@ -1,13 +1,18 @@
-use mathlib.Core.Path.{ap, sym, ◌∙◌}
-use Rattle.integrity_pool.specs.Calls.{checks_is}
-use Rattle.integrity_pool.proofs.CallLaws.{ready, forecast_refused, forecast_on}
+use Rattle.std.proofs.lemmas.Result.{err_from_is_err_and}
+use Rattle.integrity_pool.proofs.CallLaws.{lasts, forecast_refused, forecast_on, message_is}
 use Rattle.integrity_pool.proofs.forecast.Goals as goal
 
+pub returns-in_err-caps : goal.returns-in_err-caps
+returns-in_err-caps c =
+    let p = err_from_is_err_and c.from_residual.result c.from_residual.ensures.1 in
+    rw (p.1, p.2) (forecast_refused c.args.p c.args.e c.args.pool.now c.args.m.now c.args.given _ c.in_err-caps.ensures.answer)
+
 pub forecast-requires : goal.forecast-requires
-forecast-requires c = ready _ _ _ _ c.args.given (ap checks_is (sym c.in-Passed.is) ∙ c.check_inputs-checks.ensures)
+forecast-requires c =
+    let m = message_is c.args.p c.args.e c.args.pool.now c.args.m.now c.args.given _ c.in_ok-caps.ensures.answer in
+    record { count = c.in_ok-caps.ensures.count; lasts = lasts c.args.p c.args.e c.args.pool.now c.args.m.now c.args.given _ (rw m at c.in_ok-caps.ensures.answer) }
 
-pub returns-in-Refused : goal.returns-in-Refused
-returns-in-Refused c = forecast_refused _ _ _ _ _ _ (ap checks_is (sym c.in-Refused.is) ∙ c.check_inputs-checks.ensures)
-
-pub returns-in-Passed : goal.returns-in-Passed
-returns-in-Passed c = forecast_on _ _ _ _ _ (ap checks_is (sym c.in-Passed.is) ∙ c.check_inputs-checks.ensures) _ c.forecast.ensures
+pub returns : goal.returns
+returns c =
+    let m = message_is c.args.p c.args.e c.args.pool.now c.args.m.now c.args.given _ c.in_ok-caps.ensures.answer in
+    forecast_on c.args.p c.args.e c.args.pool.now c.args.m.now c.args.given (rw m at c.in_ok-caps.ensures.answer) _ (rw m at c.forecast.ensures)

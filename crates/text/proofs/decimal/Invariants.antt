@@ -1,11 +1,7 @@
-use Prim.Native.Nat.{◌≤◌, ◌-◌}
-use mathlib.Core.Path.{◌≡◌}
-use lib.ListN.{length, drop}
-use Rattle.text.specs.Decimal.{number_of, onward}
+-- `text::decimal`: what is left decides.
+use Rattle.std.proofs.Common.{◌≡◌, drop}
+use Rattle.text.specs.Decimal.{onward}
 use Rattle.text.proofs.decimal.Given as goal
 
-abbrev pub invariant-loop-i : goal.invariant-loop-i
-invariant-loop-i l = (l.i ≤ length l.s) × (onward l.total (drop l.i l.s) ≡ number_of l.s)
-
-abbrev pub decreases-loop-i : goal.decreases-loop-i
-decreases-loop-i l = length l.s - l.i
+abbrev pub invariant-loop-digit : goal.invariant-loop-digit
+invariant-loop-digit l = onward l.number (drop l.digit-index l.s) ≡ onward 0 l.s

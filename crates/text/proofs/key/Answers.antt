@@ -1,16 +1,14 @@
-use mathlib.Core.Path.{◌∙◌, sym}
-use Rattle.text.proofs.KeyLaws.{key_length, key_digits, key_is}
-use native.Mathlib.Omega.{arith}
+-- `text::key` meets its contract. Assumes nothing.
+use Rattle.std.proofs.Common.{◌≡◌, Some, replicate, sym, refl, ◌∙◌, arith}
+use Rattle.text.specs.Hex.{spelled}
+use Rattle.text.proofs.KeyLaws.{key_none, key_some}
 use Rattle.text.proofs.key.Goals as goal
 
-pub returns-then-s-ne64 : goal.returns-then-s-ne64
-returns-then-s-ne64 c = key_length _ c.if-s-ne64.true
-
-pub returns-then-all_hex : goal.returns-then-all_hex
-returns-then-all_hex c =
-    key_is _ _ _ _ _ (omega arith)
-    (sym c.if-all_hex.true ∙ c.all_hex.ensures)
-    c.word-a.ensures c.word-b.ensures c.word-c.ensures c.word-d.ensures
+pub returns-in_err-bytes : goal.returns-in_err-bytes
+returns-in_err-bytes c = c.from_residual.ensures ∙ key_none c.args.s.now (omega arith) (sym c.bytes.ensures.count ∙ c.in_err-bytes.was)
 
 pub returns : goal.returns
-returns c = key_digits _ (omega arith) (sym c.if-all_hex.false ∙ c.all_hex.ensures)
+returns c =
+    let image : c.bytes.new.out ≡ spelled (Some c.in_ok-bytes.field-0) c.args.s.now (replicate 32 0) = rw (← c.in_ok-bytes.was) c.bytes.ensures.image in
+    key_some c.args.s.now (omega arith) _ _ _ _ _ c.bytes.new.out _ refl (sym c.bytes.ensures.count ∙ c.in_ok-bytes.was) image
+    c.word.ensures c.word-2.ensures c.word-3.ensures c.word-4.ensures

@@ -1,36 +1,69 @@
-use Rattle.std.proofs.Common.{◌+◌, ◌*◌, ◌<◌, ◌≤◌, length, get_or, refl, ◌∙◌, arith}
+use Rattle.std.proofs.Common.{◌≡◌, ℕ, ◌+◌, ◌*◌, ◌<◌, ◌≤◌, List, length, get_or, refl, ap, ◌∙◌, subst, arith, rules}
+use Rattle.std.proofs.lemmas.Result.{err_from_is_err_and}
+use Rattle.types.specs.Base.{accepted}
 use Rattle.types.specs.Wide.{wide_of}
-use Rattle.types.proofs.Below.{all_not}
-use Rattle.image.specs.Layout.{read}
-use Rattle.advance_plan.specs.Stake.{table_of, SumsEligible}
-use Rattle.advance_plan.proofs.StakeLaws.{summed_none, summed_more, summed_all, seat_not, shares_length}
+use Rattle.image.specs.Pool.{words_of}
+use Rattle.advance_plan.specs.Stake.{seat_epochs, sums_of, Tabled}
+use Rattle.advance_plan.proofs.StakeLaws.{summed_none, summed_more, shares_length, sums_done, sums_not}
 use Rattle.advance_plan.proofs.stake.sum_eligible.Goals as goal
 
 pub loop-s-init : goal.loop-s-init
 unfolding wide_of
-loop-s-init c = (omega arith, omega arith, omega arith, refl, refl, summed_none _ _ _)
+loop-s-init g c = record {
+  first_high = omega arith;
+  later_high = omega arith;
+  first_long = search rules;
+  later_long = search rules;
+  caps = refl;
+  summed = summed_none _ _ _;
+}
 
-pub returns-in_default : goal.returns-in_default
-unfolding SumsEligible
-returns-in_default c = all_not _ _ c.loop-s.s (omega arith) (seat_not _ _ _ _ c.eligible_at_seat-epochs.ensures c.in_default.is)
+pub returns-in_err-seat-clause-sums : goal.returns-in_err-seat-clause-sums
+returns-in_err-seat-clause-sums g c =
+    let at = c.loop-s in
+    let w = words_of c.args.pool in
+    let p = err_from_is_err_and c.from_residual.result c.from_residual.ensures.1 in
+    let old = c.args.table.now.caps in
+    let e = ap (λ (l : List ℕ). seat_epochs w (get_or l at.s 0) at.s) at.invariant.caps in
+    rw (p.1, p.2) (sums_not w (λ (s : ℕ). get_or old s 0) c.args.seats at.s _ c.loop-s-test.true (c.in_err-seat.ensures ∙ e))
+
+pub returns-in_err-seat-clause-caps : goal.returns-in_err-seat-clause-caps
+returns-in_err-seat-clause-caps g c = c.loop-s.invariant.caps
 
 pub loop-s-preserved : goal.loop-s-preserved
-loop-s-preserved c =
+loop-s-preserved g c =
     let at = c.loop-s in
-    let a = c.args in
-    let l : at.s < 1024 = omega (arith, c.loop-s-test.true, c.requires.0, c.requires.1) in
-    let first_room : at.s * 3 + 3 ≤ length at.first_shares = omega (arith, c.loop-s-test.true, c.requires.1, c.requires.3.first, at.invariant.3) in
-    let later_room : at.s * 3 + 3 ≤ length at.later_shares = omega (arith, c.loop-s-test.true, c.requires.1, c.requires.3.later, at.invariant.4) in (
-      omega (arith, c.loop-s-test.true),
-      omega (arith, at.invariant.1, c.plus-first_sum.ensures.1),
-      omega (arith, at.invariant.2, c.plus-later_sum.ensures.1),
-      shares_length _ _ _ _ _ c.set_shares.ensures ∙ at.invariant.3,
-      shares_length _ _ _ _ _ c.set_shares-in-loop-s.ensures ∙ at.invariant.4,
-      summed_more (read a.p a.e a.pool.now) (λ q. get_or a.caps.now q 0) at.s (table_of at.first_shares at.later_shares) _ _ at.invariant.5
-          _ c.eligible_at_seat-epochs.ensures _ _ c.in-Fits.is _ _ _ c.plus-first_sum.ensures.0 c.plus-later_sum.ensures.0 c.delegation_fee-fee.ensures
-          first_room later_room _ _ c.set_shares.ensures c.set_shares-in-loop-s.ensures,
-    )
+    let w = words_of c.args.pool in
+    let old = c.args.table.now.caps in
+    let e = ap (λ (l : List ℕ). seat_epochs w (get_or l at.s 0) at.s) at.invariant.caps in
+    let seat = c.in_ok-seat.seat in
+    let first : (wide_of c.plus-first_sum.result ≡ wide_of at.first_sum + seat.first.total_eligible_delegation.0) × (c.plus-first_sum.result.hi ≤ at.first_sum.hi + 1) = c.plus-first_sum.ensures in
+    let later : (wide_of c.plus-later_sum.result ≡ wide_of at.later_sum + seat.later.total_eligible_delegation.0) × (c.plus-later_sum.result.hi ≤ at.later_sum.hi + 1) = c.plus-later_sum.ensures in
+    let within : at.s < c.args.seats = c.loop-s-test.true in
+    let room : c.args.pool.p ≤ g.row.P = c.requires.room in
+    let seats : c.args.seats ≤ c.args.pool.p = c.requires.seats in
+    let wide : g.row.W ≡ g.row.P * 3 = at.table.wide in
+    let first_long : length at.table.first_shares ≡ g.row.W = at.invariant.first_long in
+    let later_long : length at.table.later_shares ≡ g.row.W = at.invariant.later_long in
+    record {
+      first_high = omega (arith, at.invariant.first_high);
+      later_high = omega (arith, at.invariant.later_high);
+      first_long = shares_length _ _ _ _ _ c.set_shares.ensures ∙ first_long;
+      later_long = shares_length _ _ _ _ _ c.set_shares-in-loop-s.ensures ∙ later_long;
+      caps = at.invariant.caps;
+      summed = summed_more w (λ (s : ℕ). get_or old s 0) at.s at.table _ _ _ at.invariant.summed seat (c.in_ok-seat.ensures ∙ e) _ _ _ first.0 later.0
+          c.delegation_fee-fee.ensures (omega arith) (omega arith) c.set_shares.ensures c.set_shares-in-loop-s.ensures;
+    }
 
 pub returns : goal.returns
-unfolding SumsEligible
-returns c = summed_all _ _ _ _ _ _ _ (omega arith) c.loop-s.invariant.5
+returns g c =
+    let at = c.loop-s in
+    let w = words_of c.args.pool in
+    let old = c.args.table.now.caps in
+    let q : at.s ≡ c.args.seats = omega arith in
+    record {
+      sums = subst (λ (n : ℕ). accepted (record { first = wide_of at.first_sum; later = wide_of at.later_sum }) ≡ sums_of w (λ (s : ℕ). get_or old s 0) n) q
+          (sums_done w (λ (s : ℕ). get_or old s 0) at.s at.table _ _ at.invariant.summed);
+      shares = subst (λ (n : ℕ). Tabled w (λ (s : ℕ). get_or old s 0) n at.table) q at.invariant.summed.table;
+      caps = at.invariant.caps;
+    }

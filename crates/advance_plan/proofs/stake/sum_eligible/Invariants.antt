@@ -1,11 +1,15 @@
-use Rattle.std.proofs.Common.{◌≡◌, ◌-◌, ◌≤◌, length, get_or}
+use Rattle.std.proofs.Common.{◌≡◌, ℕ, ◌≤◌, length, get_or}
 use Rattle.types.specs.Wide.{wide_of}
-use Rattle.image.specs.Layout.{read}
-use Rattle.advance_plan.specs.Stake.{table_of, Summed}
+use Rattle.image.specs.Pool.{words_of}
+use Rattle.advance_plan.proofs.StakeLaws.{Summed}
 use Rattle.advance_plan.proofs.stake.sum_eligible.Given as goal
 
 abbrev pub invariant-loop-s : goal.invariant-loop-s
-invariant-loop-s l = (l.s ≤ l.seats) × (l.first_sum.hi ≤ l.s) × (l.later_sum.hi ≤ l.s) × (length l.first_shares ≡ length l.initial.first_shares) × (length l.later_shares ≡ length l.initial.later_shares) × Summed (read l.p l.e l.pool) (λ q. get_or l.caps q 0) l.s (table_of l.first_shares l.later_shares) (wide_of l.first_sum) (wide_of l.later_sum)
-
-abbrev pub decreases-loop-s : goal.decreases-loop-s
-decreases-loop-s l = l.seats - l.s
+invariant-loop-s g l = record {
+  first_high : l.first_sum.hi ≤ l.s;
+  later_high : l.later_sum.hi ≤ l.s;
+  first_long : length l.table.first_shares ≡ g.row.W;
+  later_long : length l.table.later_shares ≡ g.row.W;
+  caps : l.table.caps ≡ l.initial.table.caps;
+  summed : Summed (words_of l.pool) (λ (s : ℕ). get_or l.initial.table.caps s 0) l.s l.table (wide_of l.first_sum) (wide_of l.later_sum);
+}

@@ -1,15 +1,10 @@
-use Rattle.advance_write.proofs.HeadLaws.{head_fits, head_written}
-use native.Mathlib.Omega.{arith}
+use Rattle.advance_write.proofs.BecomesLaws.{read_same}
+use Rattle.advance_write.proofs.HeadLaws.{head_written}
 use Rattle.advance_write.proofs.head.write_head.Goals as goal
 
-pub overflow_add-pool : goal.overflow_add-pool
-overflow_add-pool c = omega (arith, head_fits _ _ _ c.requires.0.size _ _ _ c.num_events_at-at.ensures c.requires.1)
-
-pub overflow_sub-pool : goal.overflow_sub-pool
-overflow_sub-pool c = omega (arith, head_fits _ _ _ c.requires.0.size _ _ _ c.num_events_at-at.ensures c.requires.1)
-
-pub overflow_add-pool-2 : goal.overflow_add-pool-2
-overflow_add-pool-2 c = omega (arith, head_fits _ _ _ c.requires.0.size _ _ _ c.num_events_at-at.ensures c.requires.1)
-
 pub returns : goal.returns
-returns c = head_written _ _ _ c.requires.0.size _ _ _ c.num_events_at-at.ensures
+returns c =
+    let f = c.read-found.ensures in
+    let same = read_same c.read-found.result c.args.pool.now f.words f.p f.e in
+    head_written _ _ _ _ _ _ _ _ (rw c.claimable_rewards.ensures (rw same)) (rw (c.num_events.ensures, c.last_updated_epoch-last.ensures) (rw same))
+    c.set_last_updated_epoch.ensures c.set_claimable_rewards.ensures c.set_num_events.ensures

@@ -1,18 +1,26 @@
+use Rattle.std.proofs.Common.{sym, subst, arith}
+use Rattle.image.specs.declared.pool_data.PoolDataMut.{PoolDataMut}
+use Rattle.image.specs.Pool.{words_in, Becomes}
+use Rattle.image.proofs.PoolLaws.{becomes_as}
+use Rattle.advance_write.specs.Rows.{row_words}
+use Rattle.advance_write.proofs.BecomesLaws.{becomes_same}
 use Rattle.advance_write.proofs.RowLaws.{row_matched, row_full, row_seated}
-use native.Mathlib.Omega.{arith}
 use Rattle.advance_write.proofs.rows.take_seat.Goals as goal
+use Rattle.advance_write.proofs.rows.take_seat.Goals.{then-place-pool, else-place-pool}
 
-pub returns-then-matched : goal.returns-then-matched
-returns-then-matched c =
-    let a = c.args in
-    row_matched a.p a.e a.pool.now _ _ _ c.requires.0.size _ c.if-matched.true
+pub returns-then-matched-clause-words : goal.returns-then-matched-clause-words
+returns-then-matched-clause-words c = let pool = c.args.pool.now in becomes_same pool _ (row_matched pool.p pool.e (words_in pool) _ _ _ _ c.if-matched.true)
 
-pub returns-then-p-place : goal.returns-then-p-place
-returns-then-p-place c =
+pub returns-clause-words : goal.returns-clause-words
+returns-clause-words c =
     let a = c.args in
-    row_full a.p a.e a.pool.now _ _ _ c.requires.0.size _ c.if-matched.false (omega arith)
-
-pub returns : goal.returns
-returns c =
-    let a = c.args in
-    row_seated a.p a.e a.pool.now _ _ _ c.requires.0.size _ _ _ c.if-matched.false c.get_cap-row.ensures c.set_publisher.ensures
+    let pool = a.pool.now in
+    let Right : PoolDataMut → Type 0 = λ x. Becomes pool x (row_words (words_in pool) a.caps.message.now a.j a.place a.matched) in
+    elim c.if-place-pool.branch [
+      | then-place-pool w ↦
+          subst Right (sym w.pool-is)
+          (becomes_as pool _ _ w.set_publisher.ensures _ (row_seated pool.p pool.e (words_in pool) _ _ _ _ _ c.if-matched.false w.get_cap.ensures))
+      | else-place-pool w ↦
+          subst Right (sym w.pool-is)
+          (becomes_same pool _ (row_full pool.p pool.e (words_in pool) _ _ _ _ c.if-matched.false (omega arith)))
+    ]

@@ -1,28 +1,28 @@
-use Prim.Native.Nat.{◌<◌}
+use Rattle.std.proofs.Common.{◌<◌, arith}
 use Rattle.types.proofs.Below.{all_at}
-use Rattle.image.specs.Layout.{read}
-use Rattle.image.proofs.HoldsLaws.{holds_itself}
-use Rattle.image.proofs.SeatLaws.{sized_as}
-use Rattle.advance_write.proofs.SidesLaws.{rolls_none, rolls_turn, rolls_all, still_rolls}
-use native.Mathlib.Omega.{arith}
+use Rattle.image.specs.Pool.{words_in}
+use Rattle.image.proofs.PoolLaws.{becomes_reads}
+use Rattle.advance_write.proofs.BecomesLaws.{becomes_same, becomes_next}
+use Rattle.advance_write.proofs.SidesLaws.{rolls_none, still_rolls, rolls_more}
 use Rattle.advance_write.proofs.sides.roll_sides.Goals as goal
 
 pub loop-s-init : goal.loop-s-init
-loop-s-init c = (omega arith, c.requires.0, rolls_none _ _ _ _ (holds_itself _ _ _ c.requires.0.size))
+loop-s-init c = becomes_same c.args.pool.now _ (λ f r. rolls_none (words_in c.args.pool.now) f)
 
-pub roll_seat-requires : goal.roll_seat-requires
-roll_seat-requires c =
+pub roll_seat-requires-clause-seat : goal.roll_seat-requires-clause-seat
+roll_seat-requires-clause-seat c = omega (arith, c.loop-s.invariant.p, c.requires.seats)
+
+pub roll_seat-requires-clause-rolls : goal.roll_seat-requires-clause-rolls
+roll_seat-requires-clause-rolls c =
     let at = c.loop-s in
-    let l : at.s < c.args.p = omega (arith, c.requires.1) in
-    (at.invariant.1, l, still_rolls _ _ _ _ _ at.invariant.2 l (all_at _ _ at.s (omega arith) c.requires.2))
+    let pool = c.args.pool.now in
+    let l : at.s < pool.p = omega (arith, c.requires.seats) in
+    still_rolls pool.p pool.e (words_in pool) (words_in at.pool) at.s (becomes_reads pool at.pool _ at.invariant) l (all_at _ _ at.s (omega arith) c.requires.rolls)
 
 pub loop-s-preserved : goal.loop-s-preserved
 loop-s-preserved c =
     let at = c.loop-s in
-    let a = c.args in
-    let l : at.s < a.p = omega (arith, c.requires.1) in
-    let h = rolls_turn a.p a.e (read a.p a.e a.pool.now) at.pool at.s at.invariant.2 l _ c.roll_seat.ensures in
-    (omega arith, sized_as _ _ _ _ at.invariant.1 h.long, h)
-
-pub returns : goal.returns
-returns c = rolls_all _ _ _ _ _ _ (omega arith) c.loop-s.invariant.2
+    let pool = c.args.pool.now in
+    let l : at.s < pool.p = omega (arith, c.requires.seats) in
+    becomes_next pool at.pool _ _ _ _ at.invariant c.roll_seat.ensures
+    (rolls_more pool.p pool.e (words_in pool) (words_in at.pool) at.s (becomes_reads pool at.pool _ at.invariant) l)

@@ -1,9 +1,9 @@
--- `files::read::load_all` meets its contract. Assumes nothing.
+-- `files::read::load_all`: the words stand in the room.
 use Rattle.std.proofs.Common.{length, ◌-◌, ◌≤◌}
 use Rattle.files.proofs.read.load_all.Given as goal
 
-abbrev pub invariant-loop-count : goal.invariant-loop-count
-invariant-loop-count g l = l.count ≤ length l.initial.room
+abbrev pub invariant-loop-done : goal.invariant-loop-done
+invariant-loop-done g l = l.done ≤ length l.room
 
-abbrev pub decreases-loop-count : goal.decreases-loop-count
-decreases-loop-count g l = length l.initial.room - l.count
+abbrev pub decreases-loop-done : goal.decreases-loop-done
+decreases-loop-done g l = length l.initial.room - l.done

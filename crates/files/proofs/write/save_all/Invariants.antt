@@ -1,9 +1,7 @@
--- `files::write::save_all` meets its contract. Assumes nothing.
-use Rattle.std.proofs.Common.{length, ◌-◌, ◌≤◌}
+-- `files::write::save_all`: a part has as many words as go at once.
+use Rattle.std.proofs.Common.{◌≡◌}
+use Rattle.std.specs.Slice.Iter.{chunks_size}
 use Rattle.files.proofs.write.save_all.Given as goal
 
-abbrev pub invariant-loop-from : goal.invariant-loop-from
-invariant-loop-from g l = l.from ≤ length l.pool
-
-abbrev pub decreases-loop-from : goal.decreases-loop-from
-decreases-loop-from g l = length l.pool - l.from
+abbrev pub invariant-loop-part : goal.invariant-loop-part
+invariant-loop-part g l = chunks_size l.part-iterator ≡ 8192

@@ -1,15 +1,30 @@
-use mathlib.Core.Path.{◌≡◌, sym, ◌∙◌}
-use mathlib.Core.Bool.{true}
-use Rattle.image.specs.Seats.{checked_image}
-use Rattle.image.proofs.SeatLaws.{checked_says}
-use Rattle.integrity_pool.proofs.ChangeLaws.{remove_1, remove_on}
+use mathlib.Core.Path.{refl}
+use Rattle.std.proofs.Common.{rules}
+use Rattle.std.proofs.lemmas.Result.{err_from_is_err_and}
+use Rattle.pool.specs.Changes.{remove_delegation}
+use Rattle.integrity_pool.specs.Changes.{remove_call}
+use Rattle.integrity_pool.proofs.ChangeLaws.{not_checked, changes_on}
 use Rattle.integrity_pool.proofs.changes.remove_delegation.Goals as goal
 
-pub returns-then-not-right : goal.returns-then-not-right
-returns-then-not-right c = remove_1 _ _ _ _ _ _ (sym c.checked-right.ensures ∙ c.if-not-right.true)
+pub returns-in_err-check-clause-answer : goal.returns-in_err-check-clause-answer
+unfolding remove_call
+returns-in_err-check-clause-answer c =
+    let p = err_from_is_err_and c.from_residual.result c.from_residual.ensures.1 in
+    (not_checked _ _ _ _ _ c.from_residual.result c.in_err-check.ensures (rw (p.1, p.2) refl)).0
 
-pub remove_delegation-requires : goal.remove_delegation-requires
-remove_delegation-requires c = (checked_says _ _ _ (sym c.checked-right.ensures ∙ c.if-not-right.false)).0
+pub returns-in_err-check-clause-image : goal.returns-in_err-check-clause-image
+unfolding remove_call
+returns-in_err-check-clause-image c =
+    let p = err_from_is_err_and c.from_residual.result c.from_residual.ensures.1 in
+    (not_checked _ _ _ _ _ c.from_residual.result c.in_err-check.ensures (rw (p.1, p.2) refl)).1
 
-pub returns : goal.returns
-returns c = remove_on _ _ _ _ _ _ (sym c.checked-right.ensures ∙ c.if-not-right.false) _ _ c.remove_delegation.ensures
+pub returns-clause-answer : goal.returns-clause-answer
+unfolding remove_call
+returns-clause-answer c =
+    (changes_on _ _ _ _ c.new.ensures _ (λ P w. remove_delegation P w c.args.delegation.now c.args.amount.0 c.args.position_state) c.in_ok-check.ensures.0 _ c.remove_delegation.ensures).0
+
+pub returns-clause-image : goal.returns-clause-image
+unfolding remove_call
+returns-clause-image c =
+    let t = (changes_on _ _ _ _ c.new.ensures _ (λ P w. remove_delegation P w c.args.delegation.now c.args.amount.0 c.args.position_state) c.in_ok-check.ensures.0 _ c.remove_delegation.ensures).1 in
+    search rules

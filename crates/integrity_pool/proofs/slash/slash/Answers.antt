@@ -1,23 +1,44 @@
-use mathlib.Core.Path.{◌≡◌, sym, ap, ◌∙◌}
-use mathlib.Core.Bool.{true}
-use Rattle.image.specs.Seats.{checked_image}
-use Rattle.image.proofs.SeatLaws.{checked_says}
-use Rattle.integrity_pool.specs.Calls.{checks_is}
-use Rattle.integrity_pool.proofs.SlashLaws.{order_fits, slash_1, slash_refused, slash_on}
+use Rattle.std.proofs.Common.{rules}
+use Rattle.std.proofs.lemmas.Result.{err_from_is_err_and}
+use Rattle.integrity_pool.proofs.SlashLaws.{slash_1, slash_refused, slash_on, order_refuses, order_gives, turn_refused, turn_done}
 use Rattle.integrity_pool.proofs.slash.slash.Goals as goal
 
-pub returns-then-not-right : goal.returns-then-not-right
-returns-then-not-right c = slash_1 _ _ _ _ (sym c.checked-right.ensures ∙ c.if-not-right.true)
+pub returns-in_err-check-clause-answer : goal.returns-in_err-check-clause-answer
+returns-in_err-check-clause-answer c =
+    let p = err_from_is_err_and c.from_residual.result c.from_residual.ensures.1 in
+    rw (p.1, p.2, c.in_err-check.ensures.1) (slash_1 _ _ _ _ c.in_err-check.ensures.0).0
 
-pub slash_in_turn-requires : goal.slash_in_turn-requires
-slash_in_turn-requires c =
-    ((checked_says _ _ _ (sym c.checked-right.ensures ∙ c.if-not-right.false)).0, order_fits _ (ap checks_is (sym c.in-Passed.is) ∙ c.slash_order-order.ensures))
+pub returns-in_err-check-clause-image : goal.returns-in_err-check-clause-image
+returns-in_err-check-clause-image c = (slash_1 _ _ _ _ c.in_err-check.ensures.0).1
 
-pub returns-in-Refused : goal.returns-in-Refused
-returns-in-Refused c =
-    slash_refused _ _ _ _ (sym c.checked-right.ensures ∙ c.if-not-right.false) _ (ap checks_is (sym c.in-Refused.is) ∙ c.slash_order-order.ensures)
+pub returns-in_err-next_slash_event_index-clause-answer : goal.returns-in_err-next_slash_event_index-clause-answer
+returns-in_err-next_slash_event_index-clause-answer c =
+    let p = err_from_is_err_and c.from_residual-in_err-next_slash_event_index.result c.from_residual-in_err-next_slash_event_index.ensures.1 in
+    rw (p.1, p.2) (slash_refused _ _ _ _ c.in_ok-check.ensures.0 _ (order_refuses _ _ c.in_err-next_slash_event_index.ensures)).0
 
-pub returns-in-Passed : goal.returns-in-Passed
-returns-in-Passed c =
-    slash_on _ _ _ _ (sym c.checked-right.ensures ∙ c.if-not-right.false) (ap checks_is (sym c.in-Passed.is) ∙ c.slash_order-order.ensures) _ _
-    c.slash_in_turn.ensures
+pub returns-in_err-next_slash_event_index-clause-image : goal.returns-in_err-next_slash_event_index-clause-image
+returns-in_err-next_slash_event_index-clause-image c =
+    (slash_refused _ _ _ _ c.in_ok-check.ensures.0 _ (order_refuses _ _ c.in_err-next_slash_event_index.ensures)).1
+
+pub returns-in_err-slash_in_turn-clause-answer : goal.returns-in_err-slash_in_turn-clause-answer
+returns-in_err-slash_in_turn-clause-answer c =
+    let p = err_from_is_err_and c.from_residual-in_err-slash_in_turn.result c.from_residual-in_err-slash_in_turn.ensures.1 in
+    rw (p.1, p.2) (slash_on _ _ _ _ c.in_ok-check.ensures.0 (order_gives _ _ c.in_ok-next_slash_event_index.ensures).0 _ _
+    (turn_refused _ _ _ _ c.new.ensures _ _ _ c.in_err-slash_in_turn.ensures)).0
+
+pub returns-in_err-slash_in_turn-clause-image : goal.returns-in_err-slash_in_turn-clause-image
+returns-in_err-slash_in_turn-clause-image c =
+    let t = (slash_on _ _ _ _ c.in_ok-check.ensures.0 (order_gives _ _ c.in_ok-next_slash_event_index.ensures).0 _ _
+    (turn_refused _ _ _ _ c.new.ensures _ _ _ c.in_err-slash_in_turn.ensures)).1 in
+    search rules
+
+pub returns-clause-answer : goal.returns-clause-answer
+returns-clause-answer c =
+    rw (order_gives _ _ c.in_ok-next_slash_event_index.ensures).1 (slash_on _ _ _ _ c.in_ok-check.ensures.0 (order_gives _ _ c.in_ok-next_slash_event_index.ensures).0 _ _
+    (turn_done _ _ _ _ c.new.ensures _ _ c.in_ok-slash_in_turn.ensures)).0
+
+pub returns-clause-image : goal.returns-clause-image
+returns-clause-image c =
+    let t = (slash_on _ _ _ _ c.in_ok-check.ensures.0 (order_gives _ _ c.in_ok-next_slash_event_index.ensures).0 _ _
+    (turn_done _ _ _ _ c.new.ensures _ _ c.in_ok-slash_in_turn.ensures)).1 in
+    search rules

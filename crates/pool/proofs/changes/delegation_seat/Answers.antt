@@ -1,22 +1,16 @@
-use mathlib.Core.Path.{sym, ap, ◌∙◌}
-use Rattle.image.specs.Seats.{publisher_index_is}
+use Rattle.std.proofs.lemmas.Result.{err_from_is_err_and}
 use Rattle.pool.proofs.ChangeLaws.{seat_missing, seat_outdated, seat_found}
 use Rattle.pool.proofs.changes.delegation_seat.Goals as goal
 
-pub returns-then-pool-delegation : goal.returns-then-pool-delegation
-returns-then-pool-delegation c =
-    seat_outdated _ _ _ _ _
-    (ap publisher_index_is (sym c.in-Index.is) ∙ c.get_publisher_index-index.ensures)
-    c.if-pool-delegation.true
+pub returns-in_err-s : goal.returns-in_err-s
+returns-in_err-s c =
+    let p = err_from_is_err_and c.from_residual.result c.from_residual.ensures.1 in
+    rw (p.1, p.2) (seat_missing _ _ _ _ c.in_err-s.ensures)
 
-pub returns-in-InvalidPublisher : goal.returns-in-InvalidPublisher
-returns-in-InvalidPublisher c = seat_missing _ _ _ _ _ (ap publisher_index_is (sym c.in-InvalidPublisher.is) ∙ c.get_publisher_index-index.ensures)
+pub returns-in_err-up_to_date : goal.returns-in_err-up_to_date
+returns-in_err-up_to_date c =
+    let p = err_from_is_err_and c.from_residual-in_err-up_to_date.result c.from_residual-in_err-up_to_date.ensures.1 in
+    rw (p.1, p.2) (seat_outdated _ _ _ _ _ c.in_ok-s.ensures c.in_err-up_to_date.ensures)
 
-pub returns-in-PublisherNotFound : goal.returns-in-PublisherNotFound
-returns-in-PublisherNotFound c = seat_missing _ _ _ _ _ (ap publisher_index_is (sym c.in-PublisherNotFound.is) ∙ c.get_publisher_index-index.ensures)
-
-pub returns-else-pool-delegation : goal.returns-else-pool-delegation
-returns-else-pool-delegation c =
-    seat_found _ _ _ _ _
-    (ap publisher_index_is (sym c.in-Index.is) ∙ c.get_publisher_index-index.ensures)
-    c.if-pool-delegation.false
+pub returns : goal.returns
+returns c = seat_found _ _ _ _ c.in_ok-s.ensures c.in_ok-up_to_date.ensures

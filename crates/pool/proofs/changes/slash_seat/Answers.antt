@@ -1,22 +1,11 @@
-use mathlib.Core.Path.{sym, ap, ◌∙◌}
-use Rattle.image.specs.Seats.{publisher_index_is}
+use Rattle.std.proofs.lemmas.Result.{err_from_is_err_and}
 use Rattle.pool.proofs.ChangeLaws.{slash_outdated, slash_looked_up}
 use Rattle.pool.proofs.changes.slash_seat.Goals as goal
 
-pub returns-then-pool-delegation : goal.returns-then-pool-delegation
-returns-then-pool-delegation c = slash_outdated _ _ _ _ c.if-pool-delegation.true
+pub returns-in_err-up_to_date : goal.returns-in_err-up_to_date
+returns-in_err-up_to_date c =
+    let p = err_from_is_err_and c.from_residual.result c.from_residual.ensures.1 in
+    rw (p.1, p.2) (slash_outdated _ _ _ _ c.in_err-up_to_date.ensures)
 
-pub returns-in-InvalidPublisher : goal.returns-in-InvalidPublisher
-returns-in-InvalidPublisher c =
-    slash_looked_up _ _ _ _ _ c.if-pool-delegation.false
-    (ap publisher_index_is (sym c.in-InvalidPublisher.is) ∙ c.get_publisher_index-index.ensures)
-
-pub returns-in-PublisherNotFound : goal.returns-in-PublisherNotFound
-returns-in-PublisherNotFound c =
-    slash_looked_up _ _ _ _ _ c.if-pool-delegation.false
-    (ap publisher_index_is (sym c.in-PublisherNotFound.is) ∙ c.get_publisher_index-index.ensures)
-
-pub returns-in-Index : goal.returns-in-Index
-returns-in-Index c =
-    slash_looked_up _ _ _ _ _ c.if-pool-delegation.false
-    (ap publisher_index_is (sym c.in-Index.is) ∙ c.get_publisher_index-index.ensures)
+pub returns : goal.returns
+returns c = slash_looked_up _ _ _ _ c.in_ok-up_to_date.ensures c.get_publisher_index.ensures

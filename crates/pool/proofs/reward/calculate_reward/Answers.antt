@@ -1,18 +1,11 @@
-use borrow.Author.Tests.{not-true, not-false}
-use mathlib.Core.Path.{sym, ap, ◌∙◌}
-use Rattle.pool.proofs.RewardLaws.{reward_13, reward_sums}
-use Rattle.event.specs.Event.{reward_is}
+use Rattle.std.proofs.lemmas.Result.{err_from_is_err_and}
+use Rattle.pool.proofs.RewardLaws.{reward_sums}
 use Rattle.pool.proofs.reward.calculate_reward.Goals as goal
 
-pub returns-then-not-gathered : goal.returns-then-not-gathered
-returns-then-not-gathered c = reward_13 _ _ _ _ _ (not-true _ c.if-not-gathered.true)
+pub returns-in_err-sum : goal.returns-in_err-sum
+returns-in_err-sum c =
+    let p = err_from_is_err_and c.from_residual.result c.from_residual.ensures.1 in
+    rw (p.1, p.2) (reward_sums _ _ _ _ _ _ c.in_err-sum.ensures)
 
-pub returns-in-DoesNotFit : goal.returns-in-DoesNotFit
-returns-in-DoesNotFit c =
-    reward_sums _ _ _ _ _ (not-false _ c.if-not-gathered.false) _
-    (ap reward_is (sym c.in-DoesNotFit.is) ∙ c.reward_sum-sum.ensures)
-
-pub returns-in-Paid : goal.returns-in-Paid
-returns-in-Paid c =
-    reward_sums _ _ _ _ _ (not-false _ c.if-not-gathered.false) _
-    (ap reward_is (sym c.in-Paid.is) ∙ c.reward_sum-sum.ensures)
+pub returns : goal.returns
+returns c = reward_sums _ _ _ _ _ _ c.in_ok-sum.ensures

@@ -1,10 +1,7 @@
-use Rattle.pool_mirror.proofs.AnswerLaws.{create_refused, create_created}
+use Rattle.pool_mirror.specs.Inputs.{key_of}
+use Rattle.pool_mirror.proofs.AnswerLaws.{created_refused}
 use Rattle.pool_mirror.proofs.slash.pool_mirror_create_slash_event.Goals as goal
 
-pub returns-in-Created-clause-value : goal.returns-in-Created-clause-value
-returns-in-Created-clause-value c =
-    (create_created _ _ _ _ _ c.key-whose.ensures _ _ c.args.answer.now _ _ c.create_slash_event-out.ensures.0 c.create_slash_event-out.ensures.1 _ c.in-Created.is).0
-
-pub returns-in-Refused-clause-value : goal.returns-in-Refused-clause-value
-returns-in-Refused-clause-value c =
-    (create_refused _ _ _ _ _ c.key-whose.ensures _ _ c.args.answer.now _ _ c.create_slash_event-out.ensures.0 c.create_slash_event-out.ensures.1 _ c.in-Refused.is).0
+pub returns-in-Err-clause-value : goal.returns-in-Err-clause-value
+unfolding key_of
+returns-in-Err-clause-value c = rw c.from-whose.ensures at (created_refused _ _ _ _ c.in-Err.ensures.answer c.into.ensures)

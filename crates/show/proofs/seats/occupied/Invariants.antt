@@ -1,11 +1,7 @@
-use Prim.Native.Nat.{◌≤◌, ◌-◌}
-use mathlib.Core.Path.{◌≡◌}
-use Rattle.image.specs.Layout.{read}
+use Rattle.std.proofs.Common.{◌≡◌, ◌≤◌}
+use Rattle.image.specs.Pool.{words_of}
 use Rattle.show.specs.Rows.{occupied_seats}
 use Rattle.show.proofs.seats.occupied.Given as goal
 
 abbrev pub invariant-loop-s : goal.invariant-loop-s
-invariant-loop-s l = (l.s ≤ l.p) × (l.count ≤ l.s) × (l.count ≡ occupied_seats l.s (read l.p l.e l.pool))
-
-abbrev pub decreases-loop-s : goal.decreases-loop-s
-decreases-loop-s l = l.p - l.s
+invariant-loop-s l = (l.count ≤ l.s) × (l.count ≡ occupied_seats l.s (words_of l.pool))

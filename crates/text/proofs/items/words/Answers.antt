@@ -1,45 +1,53 @@
-use Rattle.text.proofs.WordsLaws.{item_wrong, item_fits, item_ends, item_goes, item_long, room_full, laid_full}
-use native.Mathlib.Omega.{arith}
-use mathlib.Core.Path.{◌∙◌}
+-- `text::items::words` meets its contract. Assumes nothing.
+use Rattle.std.proofs.Common.{rules, tests, arith, ◌≡◌, ◌+◌, ◌<◌, length, length-append, eqb, ◌∷◌, [], ◌++◌, ◌∙◌, sym}
+use Rattle.std.proofs.Math.ListN.{drop_of_length-le}
+use Rattle.text.specs.Items.{items}
+use Rattle.std.proofs.lemmas.Iterator.Consumers.{YieldsList-at, YieldsList-turn, YieldsList-end}
+use Rattle.std.proofs.lemmas.Iterator.Splits.{YieldsList-from_slice_split}
+use Rattle.std.proofs.lemmas.Result.{err_from_is_err_and}
+use Rattle.text.specs.Words.{comma}
+use Rattle.text.proofs.WordsLaws.{turn_goes, turn_ends, turn_none, turn_full}
 use Rattle.text.proofs.items.words.Goals as goal
 
-pub returns-in_default : goal.returns-in_default
-returns-in_default c =
-    let p = c in
-    let at = p.loop-count in
-    let w = item_wrong _ at.from _ p.end_of-to.ensures _ at.count at.out _ at.invariant.2 (omega arith) _
-    p.put-read.ensures.0 p.put-read.ensures.1 c.in_default.not-Words in
-    (w.0 ∙ at.invariant.3, w.1 ∙ at.invariant.4)
+pub loop-item-preserved : goal.loop-item-preserved
+loop-item-preserved c =
+    let at = c.loop-item in
+    let t = YieldsList-turn
+    (YieldsList-at c.into_iter-item-iterator.ensures.into_iter_gives
+    (YieldsList-from_slice_split _ (λ b. eqb b comma) c.args.s.now c.split-item-items.ensures.rest c.split-item-items.ensures.done c.split-item-items.ensures.closure
+    (λ x b q k. search (rules, tests))))
+    at.yielded _ at.yielded_by _ _ c.in-Some.item c.in-Some.is c.next.ensures.steps in
+    let fits : at.count < length at.out = omega arith in
+    let g = turn_goes _ (length at.yielded) at.count c.in-Some.item.now at.out c.put.new.out c.put.result t fits c.put.ensures.count c.put.ensures.image _ c.in_ok-count.was in
+    let e : length (at.yielded ++ c.in-Some.item ∷ []) ≡ length at.yielded + 1 = length-append at.yielded (c.in-Some.item ∷ []) in
+    record { within = omega arith; count = rw e (rw at.auto.out at g.1 ∙ at.invariant.count); image = rw e (g.2 ∙ at.invariant.image) }
 
-pub overflow_add-count : goal.overflow_add-count
-overflow_add-count c =
-    let p = c in
-    let at = p.loop-count in
-    omega (
-      arith,
-      item_fits _ at.from _ p.end_of-to.ensures _ at.count at.out _ at.invariant.2 (omega arith) _
-          p.put-read.ensures.0 p.put-read.ensures.1 _ c.in-Words.is,
-    )
+pub returns-in_err-count : goal.returns-in_err-count
+returns-in_err-count c =
+    let at = c.loop-item in
+    let p = err_from_is_err_and c.from_residual.result c.from_residual.ensures.1 in
+    let t = YieldsList-turn
+    (YieldsList-at c.into_iter-item-iterator.ensures.into_iter_gives
+    (YieldsList-from_slice_split _ (λ b. eqb b comma) c.args.s.now c.split-item-items.ensures.rest c.split-item-items.ensures.done c.split-item-items.ensures.closure
+    (λ x b q k. search (rules, tests))))
+    at.yielded _ at.yielded_by _ _ c.in-Some.item c.in-Some.is c.next.ensures.steps in
+    let fits : at.count < length at.out = omega arith in
+    let g = turn_ends _ (length at.yielded) at.count c.in-Some.item.now at.out c.put.new.out c.put.result t fits c.put.ensures.count c.put.ensures.image _ c.in_err-count.was in
+    record { count = rw (p.1, p.2) (sym (rw at.auto.out at g.0) ∙ at.invariant.count); image = g.1 ∙ at.invariant.image }
 
-pub returns-then-to-s : goal.returns-then-to-s
-returns-then-to-s c =
-    let p = c in
-    let at = p.loop-count in
-    let w = item_ends _ at.from _ p.end_of-to.ensures _ at.count at.out _ at.invariant.2 (omega arith) _
-    p.put-read.ensures.0 p.put-read.ensures.1 _ (omega arith) c.in-Words.is in
-    (w.0 ∙ at.invariant.3, w.1 ∙ at.invariant.4)
+pub returns-in-None : goal.returns-in-None
+returns-in-None c =
+    let at = c.loop-item in
+    let t = YieldsList-end
+    (YieldsList-at c.into_iter-item-iterator.ensures.into_iter_gives
+    (YieldsList-from_slice_split _ (λ b. eqb b comma) c.args.s.now c.split-item-items.ensures.rest c.split-item-items.ensures.done c.split-item-items.ensures.closure
+    (λ x b q k. search (rules, tests))))
+    at.yielded _ at.yielded_by _ _ c.in-None.is c.next.ensures.steps in
+    let g = turn_none _ at.count at.out (drop_of_length-le (items comma c.args.s.now) {i = length at.yielded} (omega arith)) (omega arith) in
+    record { count = sym (rw at.auto.out at g.0) ∙ at.invariant.count; image = sym g.1 ∙ at.invariant.image }
 
-pub loop-count-preserved : goal.loop-count-preserved
-loop-count-preserved c =
-    let p = c in
-    let at = p.loop-count in
-    let f = item_fits _ at.from _ p.end_of-to.ensures _ at.count at.out _ at.invariant.2 (omega arith) _
-    p.put-read.ensures.0 p.put-read.ensures.1 _ c.in-Words.is in
-    let l = item_long _ at.from _ p.end_of-to.ensures _ at.count at.out _ at.invariant.2 (omega arith) _
-    p.put-read.ensures.0 p.put-read.ensures.1 in
-    let w = item_goes _ at.from _ p.end_of-to.ensures _ at.count at.out _ at.invariant.2 (omega arith) _
-    p.put-read.ensures.0 p.put-read.ensures.1 _ c.if-to-s.false c.in-Words.is in
-    (omega arith, omega arith, l, w.0 ∙ at.invariant.3, w.1 ∙ at.invariant.4)
-
-pub returns : goal.returns
-returns c = let at = c.loop-count in (room_full _ _ at.count (omega arith) (omega arith) ∙ at.invariant.3, laid_full _ _ _ (omega arith) ∙ at.invariant.4)
+pub returns-then-count-out : goal.returns-then-count-out
+returns-then-count-out c =
+    let at = c.loop-item in
+    let g = turn_full _ at.count at.out c.if-count-out.true in
+    record { count = sym (rw at.auto.out at g.0) ∙ at.invariant.count; image = sym g.1 ∙ at.invariant.image }

@@ -1,7 +1,0 @@
-use Rattle.image.specs.Layout.{event_epoch, slot}
-use Rattle.image.proofs.SeatLaws.{read_at}
-use native.Mathlib.Omega.{arith}
-use Rattle.show.proofs.events.epoch.Goals as goal
-
-pub returns : goal.returns
-returns c = read_at c.args.p c.args.e _ (slot c.args.t event_epoch) _ (omega arith)
