@@ -1,10 +1,15 @@
 -- Numbers and keys as people read them. Assumes nothing.
-use Rattle.std.specs.Prelude.{cond, List, [], ◌∷◌, ◌++◌, ℕ, ◌-◌, ◌/◌, ◌%◌, ◌^◌, ltb, codes, ℤ, pos, neg_ℤ}
+use Rattle.std.specs.Prelude.{cond, List, [], ◌∷◌, ◌++◌, length, ℕ, ◌-◌, ◌/◌, ◌%◌, ◌^◌, ltb, codes, ℤ, pos, neg_ℤ}
+use Rattle.std.specs.List.{repeat}
 use Rattle.io.specs.Digits.{hex_digit_ascii}
 use Rattle.types.specs.Base.{half, word}
 use Rattle.positions.specs.declared.Key.{Key}
 use Rattle.positions.specs.Key.{same_key}
 use Rattle.image.specs.Seats.{zero_key}
+
+-- a text in a column of so many places, to the right; a longer one moves the rest of its line
+unfoldable pub to_right : (places : ℕ) → List ℕ → List ℕ
+to_right places text = repeat (places - length text) (codes " ") ++ text
 
 -- a signed word: from 2^63 on it stands for itself less 2^64
 unfoldable pub signed_of : ℕ → ℤ

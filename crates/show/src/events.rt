@@ -18,6 +18,25 @@ pub struct EventRow {
     pub y: u64,
 }
 
+impl fmt::Display for EventRow {
+    ghost use Rattle.std.specs.Prelude.{Some};
+    ghost use Rattle.show.specs.Rows.{event_line};
+
+    ghost output = { λ row. Some (event_line row) };
+
+    #[tactic(auto, using(crate::proofs::CellsLaws::column), unfolding(crate::specs::Rows::event_line))]
+    fn fmt<W: fmt::Write>(&self, f: &mut fmt::Formatter<W>) -> fmt::Result {
+        let EventRow {
+            event,
+            slot,
+            epoch,
+            y,
+        } = *self;
+        // Not `writeln!`, whose text ends in a part of its own.
+        write!(f, "  {event:>20}  {slot:>20}  {epoch:>20}  {y:>20}\n")
+    }
+}
+
 // What is shown of an event by its number.
 pub fn event_row(pool: PoolData<'_>, event: u64) -> EventRow
     ensures { result ≡ event_row pool.entry.e (words_of pool.entry) event }
@@ -31,19 +50,13 @@ pub fn event_row(pool: PoolData<'_>, event: u64) -> EventRow
     }
 }
 
-// An event's line.
-fn line(row: EventRow, pen: &mut Pen) -> fmt::Result {
-    write!(pen, "  {:>20}  {:>20}", row.event, row.slot)?;
-    writeln!(pen, "  {:>20}  {:>20}", row.epoch, row.y)
-}
-
 // The heading, and the lines of the newest events, at most e.
 pub(crate) fn rows(pool: PoolData<'_>, pen: &mut Pen) -> fmt::Result {
     pen.text("                 event                  slot");
     pen.text("                 epoch                     y\n");
     let newest = newest::walk_length(pool);
     for event in (0..pool.num_events()).rev().take(newest) {
-        line(event_row(pool, event), pen)?;
+        write!(pen, "{}", event_row(pool, event))?;
     }
     Ok(())
 }

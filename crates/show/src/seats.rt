@@ -24,6 +24,63 @@ pub struct SeatRow {
     pub stake_account: Key,
 }
 
+// A side's total and its change.
+#[derive(Clone, Copy)]
+struct Side(DelegationState);
+
+impl fmt::Display for Side {
+    ghost use Rattle.std.specs.Prelude.{Some};
+    ghost use Rattle.show.specs.Rows.{side_text};
+
+    ghost output = { λ side. Some (side_text side.0) };
+
+    #[tactic(auto, using(crate::proofs::CellsLaws::column, crate::proofs::CellsLaws::signed_column), unfolding(crate::specs::Rows::side_text))]
+    fn fmt<W: fmt::Write>(&self, f: &mut fmt::Formatter<W>) -> fmt::Result {
+        let total = self.0.total_delegation.0;
+        let change = signed(self.0.delta_delegation);
+        write!(f, "{total:>20}  {change:>20}")
+    }
+}
+
+// What a seat's first line says behind its side.
+#[derive(Clone, Copy)]
+struct Terms(SeatRow);
+
+impl fmt::Display for Terms {
+    ghost use Rattle.std.specs.Prelude.{Some};
+    ghost use Rattle.show.specs.Rows.{terms_text};
+
+    ghost output = { λ terms. Some (terms_text terms.0) };
+
+    #[tactic(auto, using(crate::proofs::CellsLaws::column), unfolding(crate::specs::Rows::terms_text))]
+    fn fmt<W: fmt::Write>(&self, f: &mut fmt::Formatter<W>) -> fmt::Result {
+        let fee = self.0.fee;
+        let slash_events = self.0.slash_events;
+        let account = ShortKey(self.0.stake_account);
+        write!(f, "{fee:>7}  {slash_events:>12}  {account}")
+    }
+}
+
+impl fmt::Display for SeatRow {
+    ghost use Rattle.std.specs.Prelude.{Some};
+    ghost use Rattle.show.specs.Rows.{seat_lines};
+
+    ghost output = { λ row. Some (seat_lines row) };
+
+    #[tactic(auto, using(crate::proofs::CellsLaws::column), unfolding(crate::specs::Rows::seat_lines))]
+    fn fmt<W: fmt::Write>(&self, f: &mut fmt::Formatter<W>) -> fmt::Result {
+        let seat = self.seat;
+        let publisher = ShortKey(self.publisher);
+        let own = Side(self.self_side);
+        let terms = Terms(*self);
+        let other = Side(self.other_side);
+        write!(
+            f,
+            "  {seat:>4}  {publisher}  self   {own}  {terms}\n                            other  {other}\n"
+        )
+    }
+}
+
 // Whether seat s has a publisher.
 #[tactic(auto, unfolding(image::specs::Seats::empty_seat, positions::specs::Key::same_key))]
 pub fn has_publisher(pool: PoolData<'_>, s: usize) -> bool
@@ -62,30 +119,13 @@ pub fn seat_row(pool: PoolData<'_>, s: usize) -> SeatRow
     }
 }
 
-// A seat's two lines.
-fn lines(row: SeatRow, pen: &mut Pen) -> fmt::Result {
-    let publisher = ShortKey(row.publisher);
-    write!(pen, "  {:>4}  {publisher}", row.seat)?;
-    let total = row.self_side.total_delegation.0;
-    let change = signed(row.self_side.delta_delegation);
-    write!(pen, "  self   {total:>20}  {change:>20}")?;
-    let account = ShortKey(row.stake_account);
-    writeln!(pen, "  {:>7}  {:>12}  {account}", row.fee, row.slash_events)?;
-    let total = row.other_side.total_delegation.0;
-    let change = signed(row.other_side.delta_delegation);
-    writeln!(
-        pen,
-        "                            other  {total:>20}  {change:>20}"
-    )
-}
-
 // The heading, and the lines of all seats.
 pub(crate) fn rows(pool: PoolData<'_>, pen: &mut Pen) -> fmt::Result {
     pen.text("  seat  publisher           side                  total                change");
     pen.text("      fee  slash events  stake account\n");
     for s in 0..pool.p {
         if has_publisher(pool, s) {
-            lines(seat_row(pool, s), pen)?;
+            write!(pen, "{}", seat_row(pool, s))?;
         }
     }
     Ok(())
