@@ -1,3 +1,4 @@
 pub mod Accounts
 pub mod Args
+pub mod Calls
 pub mod Site

@@ -1,5 +1,6 @@
 // A line's call is made, and answered.
-ghost use Rattle.std.specs.Prelude.{◌≡◌, [], ◌∷◌};
+ghost use Rattle.std.specs.Prelude.{◌≡◌};
+ghost use Rattle.mirror.specs.Calls.{advanced_told, record_told, payment_told};
 
 use crate::failure::{Failure, check_accounts};
 use crate::site::{Site, next_nonzero};
@@ -15,7 +16,7 @@ use types::refusals::Refusal;
 
 // The values of an advance's answer.
 fn advanced_values(done: Advanced) -> [u64; 5]
-    ensures { result ≡ done.y.0 ∷ done.set_aside.0 ∷ done.matched ∷ done.seated ∷ done.dropped ∷ [] }
+    ensures { result ≡ advanced_told done }
 {
     [
         done.y.0,
@@ -27,15 +28,15 @@ fn advanced_values(done: Advanced) -> [u64; 5]
 }
 
 // The record to keep.
-fn record_values(record: DelegationRecord) -> [u64; 2]
-    ensures { result ≡ record.last_epoch.0 ∷ record.next_slash_event_index ∷ [] }
+fn record_values(kept: DelegationRecord) -> [u64; 2]
+    ensures { result ≡ record_told kept }
 {
-    [record.last_epoch.0, record.next_slash_event_index]
+    [kept.last_epoch.0, kept.next_slash_event_index]
 }
 
 // The values of a payment's answer.
 fn payment_values(paid: Payment) -> [u64; 6]
-    ensures { result ≡ paid.delegator_reward.0 ∷ paid.publisher_reward.0 ∷ paid.delegation_record.last_epoch.0 ∷ paid.delegation_record.next_slash_event_index ∷ paid.reads ∷ paid.custody_fall.0 ∷ [] }
+    ensures { result ≡ payment_told paid }
 {
     let [epoch, index] = record_values(paid.delegation_record);
     [

@@ -2,9 +2,10 @@
 ghost use Rattle.std.specs.Prelude.{◌≡◌};
 ghost use Rattle.types.specs.Base.{outcome_of, outcome_by};
 ghost use Rattle.image.specs.Changes.{acceptance};
-ghost use Rattle.integrity_pool.specs.Changes.{add_call, remove_call, create_slash_event_call, created_in, epoch_as, slash_call, slashed_with, fee_call, stake_account_call};
-ghost use Rattle.mirror.specs.Args.{number_at, key_at, state_at, delegation_in, slashing_in, accounts_in};
-ghost use Rattle.mirror.specs.Site.{changed, first_list_of, list_of};
+ghost use Rattle.integrity_pool.specs.Changes.{created_in, epoch_as, slashed_with};
+ghost use Rattle.mirror.specs.Args.{number_at, slashing_in};
+ghost use Rattle.mirror.specs.Site.{changed};
+ghost use Rattle.mirror.specs.Calls.{add_of, remove_of, create_slash_event_of, slash_of, fee_of, stake_account_of};
 
 use crate::args::{accounts, delegation, key, slashing};
 use crate::site::Site;
@@ -18,8 +19,8 @@ use types::{Amount, Epoch, Ratio};
 impl Site {
     // add NOW PUBLISHER ACCOUNT AMOUNT
     pub fn add(&mut self, fields: &Fields) -> Result<(), Refusal>
-        ensures answer { outcome_of result ≡ acceptance (add_call self.old.p self.old.e self.old.image.items (delegation_in fields.now.values.items) (number_at fields.now.values.items 3)) }
-        ensures site { self.new ≡ changed self.old (add_call self.old.p self.old.e self.old.image.items (delegation_in fields.now.values.items) (number_at fields.now.values.items 3)) }
+        ensures answer { outcome_of result ≡ acceptance (add_of self.old fields.now) }
+        ensures site { self.new ≡ changed self.old (add_of self.old fields.now) }
     {
         let delegation = delegation(fields);
         let amount = Amount(fields.number(3));
@@ -29,8 +30,8 @@ impl Site {
 
     // remove NOW PUBLISHER ACCOUNT AMOUNT STATE
     pub fn remove(&mut self, fields: &Fields) -> Result<(), Refusal>
-        ensures answer { outcome_of result ≡ acceptance (remove_call self.old.p self.old.e self.old.image.items (delegation_in fields.now.values.items) (number_at fields.now.values.items 3) (state_at fields.now.values.items 4)) }
-        ensures site { self.new ≡ changed self.old (remove_call self.old.p self.old.e self.old.image.items (delegation_in fields.now.values.items) (number_at fields.now.values.items 3) (state_at fields.now.values.items 4)) }
+        ensures answer { outcome_of result ≡ acceptance (remove_of self.old fields.now) }
+        ensures site { self.new ≡ changed self.old (remove_of self.old fields.now) }
     {
         let delegation = delegation(fields);
         let amount = Amount(fields.number(3));
@@ -41,8 +42,8 @@ impl Site {
 
     // create-slash-event NOW PUBLISHER INDEX
     pub fn create_slash_event(&mut self, fields: &Fields) -> Result<Epoch, Refusal>
-        ensures answer { outcome_by epoch_as result ≡ created_in (number_at fields.now.values.items 0) (create_slash_event_call self.old.p self.old.e self.old.image.items (key_at fields.now.values.items 1) (number_at fields.now.values.items 2)) }
-        ensures site { self.new ≡ changed self.old (create_slash_event_call self.old.p self.old.e self.old.image.items (key_at fields.now.values.items 1) (number_at fields.now.values.items 2)) }
+        ensures answer { outcome_by epoch_as result ≡ created_in (number_at fields.now.values.items 0) (create_slash_event_of self.old fields.now) }
+        ensures site { self.new ≡ changed self.old (create_slash_event_of self.old fields.now) }
     {
         let publisher = key(fields, 1);
         let index = fields.number(2);
@@ -53,8 +54,8 @@ impl Site {
 
     // slash NOW PUBLISHER ACCOUNT RECORD_EPOCH NEXT_INDEX INDEX EVENT_EPOCH LOCKED PREUNLOCKING
     pub fn slash(&mut self, fields: &Fields) -> Result<DelegationRecord, Refusal>
-        ensures answer { outcome_of result ≡ slashed_with (slashing_in fields.now.values.items) (slash_call self.old.p self.old.e self.old.image.items (slashing_in fields.now.values.items)) }
-        ensures site { self.new ≡ changed self.old (slash_call self.old.p self.old.e self.old.image.items (slashing_in fields.now.values.items)) }
+        ensures answer { outcome_of result ≡ slashed_with (slashing_in fields.now.values.items) (slash_of self.old fields.now) }
+        ensures site { self.new ≡ changed self.old (slash_of self.old fields.now) }
     {
         let slashing = slashing(fields);
         slash::slash(self.image.as_mut_slice(), self.p, self.e, &slashing)
@@ -62,8 +63,8 @@ impl Site {
 
     // fee FEE
     pub fn fee(&mut self, fields: &Fields) -> Result<(), Refusal>
-        ensures answer { outcome_of result ≡ acceptance (fee_call self.old.p self.old.e self.old.image.items (number_at fields.now.values.items 0)) }
-        ensures site { self.new ≡ changed self.old (fee_call self.old.p self.old.e self.old.image.items (number_at fields.now.values.items 0)) }
+        ensures answer { outcome_of result ≡ acceptance (fee_of self.old fields.now) }
+        ensures site { self.new ≡ changed self.old (fee_of self.old fields.now) }
     {
         let fee = Ratio(fields.number(0));
         changes::update_delegation_fee(self.image.as_mut_slice(), self.p, self.e, fee)
@@ -71,8 +72,8 @@ impl Site {
 
     // stake-account PUBLISHER SIGNER AUTHORITY OLD OLD_OWNER OLD_POSITIONS NEW NEW_POSITIONS
     pub fn stake_account(&mut self, fields: &Fields) -> Result<(), Refusal>
-        ensures answer { outcome_of result ≡ acceptance (stake_account_call self.old.p self.old.e self.old.image.items (first_list_of fields.now) (list_of fields.now) (accounts_in fields.now.values.items)) }
-        ensures site { self.new ≡ changed self.old (stake_account_call self.old.p self.old.e self.old.image.items (first_list_of fields.now) (list_of fields.now) (accounts_in fields.now.values.items)) }
+        ensures answer { outcome_of result ≡ acceptance (stake_account_of self.old fields.now) }
+        ensures site { self.new ≡ changed self.old (stake_account_of self.old fields.now) }
     {
         let accounts = accounts(fields);
         let old = fields.first_list();
