@@ -5,22 +5,21 @@ use Prim.Native.Nat.{ℕ, ◌<◌}
 use native.Mathlib.Omega.{arith}
 use borrow.Author.Tests.{eq-eqb, ne_eqb, eqb-true, eqb-false}
 use Rattle.std.specs.Prelude.{if◌then◌else◌, eqb, Result, Ok, Err}
-use Rattle.types.specs.Base.{Outcome, refused, accepted, map_outcome, and_then, outcome_of}
+use Rattle.types.specs.Base.{Outcome, refused, accepted, and_then, outcome_of, outcome_by}
 use Rattle.types.specs.Refusals.{number_of, outdated_publisher_accounting}
 use Rattle.types.specs.declared.refusals.Refusal.{Refusal}
 use Rattle.types.proofs.OutcomeLaws.{then_accepts}
 use Rattle.delegation.specs.declared.DelegationState.{DelegationState}
 use Rattle.delegation.specs.Side.{Side, side_of}
-use Rattle.image.specs.declared.pool_data.PoolData.{PoolData}
 use Rattle.image.specs.declared.pool_data.PoolDataMut.{PoolDataMut}
-use Rattle.image.specs.Layout.{Words, head, last_updated_epoch}
-use Rattle.image.specs.Pool.{words_of, words_in, Becomes}
-use Rattle.image.specs.Seats.{side_at, with_side, publisher_index_of}
-use Rattle.image.specs.Changes.{self_side, whose, Change, side, changed_image, acceptance}
+use Rattle.image.specs.Layout.{Whose, Words, head, last_updated_epoch}
+use Rattle.image.specs.Pool.{words_in, Becomes}
+use Rattle.image.specs.Seats.{with_side, publisher_index_of}
+use Rattle.image.specs.Changes.{Change, side, changed_image, acceptance}
 use Rattle.image.proofs.SeatLaws.{index_lt}
 use Rattle.image.proofs.ChangeWrites.{refused_leaves, refused_answers}
 use Rattle.pool.specs.declared.changes.Delegation.{Delegation}
-use Rattle.pool.specs.Changes.{up_to_date, dated, delegation_seat, slash_seat, account_side, side_change, ChangesAs}
+use Rattle.pool.specs.Changes.{up_to_date, dated, delegation_seat, slash_seat, account_side, side_change, ChangesAs, SideChanges}
 
 -- ---- the publisher's seat
 
@@ -118,15 +117,6 @@ module _ (P : ℕ) (w : Words) (d : Delegation) where
 
 -- ---- the call as a whole, from the seat on
 
--- the pool as it is read
-pub record Reads (pool : PoolDataMut) (found : PoolData) : Type 0 where
-  pub words : found.words.now ≡ pool.words.now
-  pub p : found.p ≡ pool.p
-  pub e : found.e ≡ pool.e
-
-pub reads_words : (pool : PoolDataMut) (found : PoolData) → Reads pool found → words_of found ≡ words_in pool
-reads_words pool found h = rw (h.words, h.p, h.e) refl
-
 module _ (pool : PoolDataMut) where
   -- nothing is written
   pub not_changed : (o : Outcome Change) (x : Refusal) (r : Result (Unit {0}) Refusal) → refused (number_of x) ≡ o → r ≡ Err x → ChangesAs pool pool o r
@@ -142,24 +132,16 @@ module _ (pool : PoolDataMut) where
       → ChangesAs pool pool (and_then o f) r
   no_seat o f x r e q = not_changed (and_then o f) x r (ap (λ (y : Outcome ℕ). and_then y f) e) q
 
-  module _ (found : PoolData) (reads : Reads pool found) (o : Outcome ℕ) (d : Delegation) (f : ℕ → ℕ → Outcome Side) where
-    abbrev call : Outcome Change
-    call = and_then o (side_change (words_in pool) d f)
+  -- the side is written
+  pub side_written : (s : ℕ) (d : Whose) (u : DelegationState) (new : PoolDataMut) → Becomes pool new (with_side (words_in pool) s d u)
+      → ChangesAs pool new (accepted (side s d (side_of u))) (Ok tt)
+  unfolding changed_image acceptance
+  side_written s d u new h = record { answer = refl; same_loan = h.same_loan; p = h.p; e = h.e; image = h.words }
 
-    -- the side that the account's stake stands on was read
-    module _ (s : ℕ) (at : accepted s ≡ o) (b : Bool) (mine : b ≡ self_side (words_of found) s d.stake_account_positions)
-        (v : DelegationState) (side_is : v ≡ side_at (words_of found) s (whose b)) where
-      call_is : map_outcome (side s (whose b)) (f v.total_delegation.0 v.delta_delegation) ≡ call
-      unfolding side_change account_side
-      call_is = rw (sym at, side_is, mine, reads_words pool found reads) refl
-
-      pub side_stays : (x : Refusal) (r : Result (Unit {0}) Refusal) → refused (number_of x) ≡ f v.total_delegation.0 v.delta_delegation → r ≡ Err x
-          → ChangesAs pool pool call r
-      side_stays x r e q = not_changed call x r (ap (map_outcome (side s (whose b))) e ∙ call_is) q
-
-      pub side_changes : (u : DelegationState) (new : PoolDataMut) → accepted (side_of u) ≡ f v.total_delegation.0 v.delta_delegation
-          → Becomes pool new (with_side (words_in pool) s (whose b) u) → ChangesAs pool new call (Ok tt)
-      unfolding changed_image acceptance
-      side_changes u new e h =
-          let c : accepted (side s (whose b) (side_of u)) ≡ call = ap (map_outcome (side s (whose b))) e ∙ call_is in
-          record { answer = ap acceptance c; same_loan = h.same_loan; p = h.p; e = h.e; image = h.words ∙ ap (changed_image pool.p pool.e pool.words.now) c }
+  -- from the seat that was found on, where each answer of the change is what f says of the side
+  pub changed : (new : PoolDataMut) (o : Outcome ℕ) (s : ℕ) (d : Delegation) (f : (total change : ℕ) → Outcome Side)
+      (may_answer : DelegationState → Result DelegationState Refusal → Type 0) (r : Result (Unit {0}) Refusal) → accepted s ≡ o
+      → ((v : DelegationState) (u : Result DelegationState Refusal) → may_answer v u → outcome_by side_of u ≡ f v.total_delegation.0 v.delta_delegation)
+      → SideChanges may_answer pool new s d.stake_account_positions r → ChangesAs pool new (and_then o (side_change (words_in pool) d f)) r
+  unfolding side_change account_side
+  changed new o s d f may_answer r at says h = rw (sym at, sym (says _ h.becomes h.answered)) h.changes

@@ -1,12 +1,15 @@
 -- Item 9 of document 01: add, remove and a slash that applies, over the image's words by name. Assumes nothing.
 use Rattle.std.specs.Prelude.{◌≡◌, Bool, ℕ, eqb, if◌then◌else◌, Result}
-use Rattle.types.specs.Base.{Outcome, refused, accepted, map_outcome, and_then, outcome_of}
+use Rattle.types.specs.Base.{Outcome, refused, accepted, map_outcome, and_then, outcome_of, outcome_by}
 use Rattle.types.specs.Refusals.{outdated_publisher_accounting}
 use Rattle.types.specs.declared.refusals.Refusal.{Refusal}
 use Rattle.positions.specs.declared.position.PositionState.{PositionState}
-use Rattle.delegation.specs.Side.{Side, add_of, remove_of, slash_of}
+use Rattle.positions.specs.declared.Key.{Key}
+use Rattle.delegation.specs.declared.DelegationState.{DelegationState}
+use Rattle.delegation.specs.Side.{Side, side_of, add_of, remove_of, slash_of}
+use Rattle.image.specs.Pool.{words_in}
 use Rattle.image.specs.Layout.{Whose, last_updated_epoch, total_delegation, delta_delegation, head, seat, Words}
-use Rattle.image.specs.Seats.{publisher_index_of}
+use Rattle.image.specs.Seats.{publisher_index_of, side_at}
 use Rattle.image.specs.declared.pool_data.PoolDataMut.{PoolDataMut}
 use Rattle.image.specs.Changes.{self_side, whose, Change, side, changed_image, acceptance}
 -- publisher, stake_account_positions (the account), current_epoch
@@ -61,3 +64,10 @@ pub record ChangesAs (old new : PoolDataMut) (o : Outcome Change) (r : Result (U
   pub p : new.p ≡ old.p
   pub e : new.e ≡ old.e
   pub image : new.words.now ≡ changed_image old.p old.e old.words.now o
+
+-- the account's side at seat s becomes what a change of it answers, whatever that may be
+pub record SideChanges (may_answer : DelegationState → Result DelegationState Refusal → Type 0) (old new : PoolDataMut) (s : ℕ) (account : Key)
+    (r : Result (Unit {0}) Refusal) : Type 0 where
+  pub becomes : Result DelegationState Refusal
+  pub answered : may_answer (side_at (words_in old) s (whose (self_side (words_in old) s account))) becomes
+  pub changes : ChangesAs old new (map_outcome (side s (whose (self_side (words_in old) s account))) (outcome_by side_of becomes)) r

@@ -1,9 +1,10 @@
 // Item 9: add, remove and a slash that applies, on a checked image.
-ghost use Rattle.std.specs.Prelude.{◌≡◌};
+ghost use Rattle.std.specs.Prelude.{◌≡◌, ◌<◌};
 ghost use Rattle.types.specs.Base.{outcome_of};
 ghost use Rattle.image.specs.Pool.{words_of, words_in};
-ghost use Rattle.pool.specs.Changes.{ChangesAs, dated, delegation_seat, slash_seat, add_delegation, remove_delegation, apply_slash};
+ghost use Rattle.pool.specs.Changes.{ChangesAs, SideChanges, dated, delegation_seat, slash_seat, add_delegation, remove_delegation, apply_slash};
 
+use delegation::DelegationState;
 use image::pool_data::{PoolData, PoolDataMut};
 use positions::Key;
 use positions::position::PositionState;
@@ -47,6 +48,24 @@ fn slash_seat(pool: PoolData<'_>, delegation: &Delegation) -> Result<usize, Refu
     pool.get_publisher_index(delegation.publisher)
 }
 
+// The account's side at seat s becomes what the change makes of it.
+fn change_side<F: FnOnce(DelegationState) -> Result<DelegationState, Refusal>>(
+    pool: &mut PoolDataMut<'_>,
+    s: usize,
+    account: Key,
+    change: F,
+) -> Result<(), Refusal>
+    requires seat { s < pool.old.p }
+    requires callable { F.IsAlwaysCallable change }
+    ensures { SideChanges (F.post change) pool.old pool.new s account result }
+{
+    let found = pool.read();
+    let is_self = found.is_self_side(s, account);
+    let becomes = change(found.side(s, is_self))?;
+    pool.set_side(s, is_self, becomes);
+    Ok(())
+}
+
 // The amount joins the change of the account's side.
 pub fn add_delegation(
     pool: &mut PoolDataMut<'_>,
@@ -55,12 +74,9 @@ pub fn add_delegation(
 ) -> Result<(), Refusal>
     ensures { ChangesAs pool.old pool.new (add_delegation pool.old.p (words_in pool.old) delegation.now amount.0) result }
 {
-    let found = pool.read();
-    let s = delegation_seat(found, delegation)?;
-    let is_self = found.is_self_side(s, delegation.stake_account_positions);
-    let becomes = found.side(s, is_self).add(amount)?;
-    pool.set_side(s, is_self, becomes);
-    Ok(())
+    let s = delegation_seat(pool.read(), delegation)?;
+    let account = delegation.stake_account_positions;
+    change_side(pool, s, account, |side| side.add(amount))
 }
 
 // The amount leaves it, by the position's state.
@@ -72,12 +88,9 @@ pub fn remove_delegation(
 ) -> Result<(), Refusal>
     ensures { ChangesAs pool.old pool.new (remove_delegation pool.old.p (words_in pool.old) delegation.now amount.0 position_state) result }
 {
-    let found = pool.read();
-    let s = delegation_seat(found, delegation)?;
-    let is_self = found.is_self_side(s, delegation.stake_account_positions);
-    let becomes = found.side(s, is_self).remove(amount, position_state)?;
-    pool.set_side(s, is_self, becomes);
-    Ok(())
+    let s = delegation_seat(pool.read(), delegation)?;
+    let account = delegation.stake_account_positions;
+    change_side(pool, s, account, |side| side.remove(amount, position_state))
 }
 
 // What was slashed leaves the total of the account's side, and preunlocking joins its change.
@@ -89,12 +102,12 @@ pub fn apply_slash(
 ) -> Result<(), Refusal>
     ensures { ChangesAs pool.old pool.new (apply_slash pool.old.p (words_in pool.old) delegation.now locked_slashed.0 preunlocking_slashed.0) result }
 {
-    let found = pool.read();
-    let s = slash_seat(found, delegation)?;
-    let is_self = found.is_self_side(s, delegation.stake_account_positions);
-    let becomes = found
-        .side(s, is_self)
-        .slash(locked_slashed, preunlocking_slashed)?;
-    pool.set_side(s, is_self, becomes);
-    Ok(())
+    let s = slash_seat(pool.read(), delegation)?;
+    let account = delegation.stake_account_positions;
+    change_side(
+        pool,
+        s,
+        account,
+        |side| side.slash(locked_slashed, preunlocking_slashed),
+    )
 }
