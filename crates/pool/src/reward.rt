@@ -59,7 +59,7 @@ fn slot_reward(
 }
 
 // The rewards of the amounts in the ring slots, newest first, added up, on the publisher's own side or
-// the other. Both sums together stay a word.
+// the other. Both sums together stay a word. There is no heap: the amounts stand in an array with the ring's room.
 fn reward_sum(
     pool: PoolData<'_>,
     s: usize,

@@ -15,9 +15,6 @@ unfolding slot_from
 loop-k-init c =
     (mod-lt _ c.args.pool.sized.e_low, ap (λ (n : ℕ). n % c.args.pool.e) (c.num_events.ensures ∙ sym (sub-zero _)), summed_none _)
 
-pub slot_before-slot-requires : goal.slot_before-slot-requires
-slot_before-slot-requires c = c.loop-k.invariant.0
-
 pub slot_reward-requires : goal.slot_reward-requires
 slot_reward-requires c = (before_lt _ _ _ c.loop-k.invariant.0 c.slot_before-slot.ensures, c.requires)
 
@@ -29,12 +26,6 @@ returns-in_err-reward c =
     let i = slot_back _ _ _ _ _ c.args.pool.sized.e_low b c.loop-k.invariant.1 c.slot_before-slot.ensures in
     let r = slot_earns _ _ _ _ _ _ _ _ i c.in_err-reward.ensures in
     rw (p.1, p.2, slot_refused _ _ _ _ _ _ _ r) (sum_13_slot _ _ _ _ b r)
-
-pub overflow_add-room : goal.overflow_add-room
-overflow_add-room c = let f = c.loop-k.invariant.2.fits in omega arith
-
-pub overflow_sub-room : goal.overflow_sub-room
-overflow_sub-room c = let f = c.loop-k.invariant.2.fits in omega arith
 
 pub returns-then-room-delegator : goal.returns-then-room-delegator
 returns-then-room-delegator c =
