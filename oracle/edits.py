@@ -9,6 +9,7 @@ OPERATORS = {"+": "-", "-": "+", "*": "+", "/": "%", "%": "/", "|": "&", ">>": "
 SIDES = [("self", "other"), ("first", "later"), ("hi", "lo"), ("old", "new"), ("locked", "preunlocking"), ("delegator", "publisher"),
          ("matched", "seated"), ("seated", "dropped"), ("true", "false"), ("quotient", "remainder"), ("from", "to"),
          ("self_del_state", "del_state"), ("total_delegation", "delta_delegation"), ("LOCKED", "UNLOCKED"), ("PREUNLOCKING", "UNLOCKING")]
+REFUSAL = r"\bRefusal::[A-Z]\w*"
 WORDS = re.compile(r"\b[A-Za-z_][A-Za-z0-9_]*\b")
 KEYWORDS = set("if else while for in let mut return match fn pub use mod struct enum impl const as self Self true false usize u64 u8 bool crate ref loop break "
                "continue extern unsafe where".split())
@@ -99,8 +100,8 @@ def tests(code, start, end):
 
 
 def refusals(code, start, end):
-    names = sorted({w for _, _, w in tokens(code, 0, len(code), r"\b[A-Z][A-Z_]{4,}\b")})
-    for a, b, text in tokens(code, start, end, r"\b[A-Z][A-Z_]{4,}\b"):
+    names = sorted({w for _, _, w in tokens(code, 0, len(code), REFUSAL)})
+    for a, b, text in tokens(code, start, end, REFUSAL):
         for other in names:
             if other != text:
                 yield a, b, other

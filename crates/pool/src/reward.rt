@@ -50,10 +50,7 @@ fn slot_reward(
     ensures { outcome_by parts_as result ≡ event_reward (event_of (words_of pool.entry) t s) amount is_publisher }
 {
     if amount == 0 {
-        return Ok(Reward {
-            delegator_reward: Amount(0),
-            publisher_reward: Amount(0),
-        });
+        return Ok(Reward::default());
     }
     get_event(pool, t, s).calculate_reward(Amount(amount), is_publisher)
 }
