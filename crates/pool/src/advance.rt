@@ -31,6 +31,7 @@ pub struct Advanced {
 }
 
 // An advance, worked out in a table with room for P seats. All is worked out and tested before the first word is written.
+#[tactic(auto, unfolding(crate::specs::Answers::image_after, advance_plan::specs::Advance::advance_of, advance_plan::specs::Plan::planned_of, advance_plan::specs::Plan::sum_of))]
 fn advance_in<const P: usize, const W: usize>(
     pool: &mut PoolDataMut<'_>,
     caps: PublisherCaps<'_>,
@@ -71,6 +72,7 @@ pub fn advance(
 }
 
 // What an advance would set aside, every passed epoch taken at the rolled totals. Nothing is written.
+#[tactic(auto, unfolding(advance_plan::specs::Advance::forecast_of, advance_plan::specs::Plan::planned_of, advance_plan::specs::Plan::sum_of))]
 fn forecast_in<const P: usize, const W: usize>(
     pool: PoolData<'_>,
     caps: PublisherCaps<'_>,

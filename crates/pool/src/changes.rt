@@ -21,7 +21,7 @@ pub struct Delegation {
 }
 
 // 12 where the pool has not been advanced to the epoch.
-#[tactic(auto, using(crate::proofs::ChangeLaws::is_dated, crate::proofs::ChangeLaws::not_dated))]
+#[tactic(auto, unfolding(crate::specs::Changes::up_to_date))]
 pub fn up_to_date(pool: PoolData<'_>, current_epoch: u64) -> Result<(), Refusal>
     ensures { outcome_of result ≡ dated (words_of pool.entry) current_epoch }
 {
@@ -32,6 +32,7 @@ pub fn up_to_date(pool: PoolData<'_>, current_epoch: u64) -> Result<(), Refusal>
 }
 
 // The seat for an add or a remove: 10, 11, then 12.
+#[tactic(auto, unfolding(crate::specs::Changes::up_to_date, crate::specs::Changes::delegation_seat))]
 fn delegation_seat(pool: PoolData<'_>, delegation: &Delegation) -> Result<usize, Refusal>
     ensures { outcome_of result ≡ delegation_seat pool.entry.p (words_of pool.entry) delegation.now }
 {
@@ -41,6 +42,7 @@ fn delegation_seat(pool: PoolData<'_>, delegation: &Delegation) -> Result<usize,
 }
 
 // The seat for a slash: 12, then 10, 11.
+#[tactic(auto, unfolding(crate::specs::Changes::up_to_date, crate::specs::Changes::slash_seat))]
 fn slash_seat(pool: PoolData<'_>, delegation: &Delegation) -> Result<usize, Refusal>
     ensures { outcome_of result ≡ slash_seat pool.entry.p (words_of pool.entry) delegation.now }
 {
@@ -49,6 +51,7 @@ fn slash_seat(pool: PoolData<'_>, delegation: &Delegation) -> Result<usize, Refu
 }
 
 // The account's side at seat s becomes what the change makes of it.
+#[tactic(auto, unfolding(image::specs::Changes::changed_image, image::specs::Changes::acceptance))]
 fn change_side<F: FnOnce(DelegationState) -> Result<DelegationState, Refusal>>(
     pool: &mut PoolDataMut<'_>,
     s: usize,
@@ -67,6 +70,7 @@ fn change_side<F: FnOnce(DelegationState) -> Result<DelegationState, Refusal>>(
 }
 
 // The amount joins the change of the account's side.
+#[tactic(auto, using(crate::proofs::ChangeLaws::seat_lt), unfolding(crate::specs::Changes::add_delegation, crate::specs::Changes::side_change, crate::specs::Changes::account_side, image::specs::Changes::changed_image, image::specs::Changes::acceptance))]
 pub fn add_delegation(
     pool: &mut PoolDataMut<'_>,
     delegation: &Delegation,
@@ -80,6 +84,7 @@ pub fn add_delegation(
 }
 
 // The amount leaves it, by the position's state.
+#[tactic(auto, using(crate::proofs::ChangeLaws::seat_lt), unfolding(crate::specs::Changes::remove_delegation, crate::specs::Changes::side_change, crate::specs::Changes::account_side, image::specs::Changes::changed_image, image::specs::Changes::acceptance))]
 pub fn remove_delegation(
     pool: &mut PoolDataMut<'_>,
     delegation: &Delegation,
@@ -94,6 +99,7 @@ pub fn remove_delegation(
 }
 
 // What was slashed leaves the total of the account's side, and preunlocking joins its change.
+#[tactic(auto, using(crate::proofs::ChangeLaws::slash_seat_lt), unfolding(crate::specs::Changes::apply_slash, crate::specs::Changes::side_change, crate::specs::Changes::account_side, image::specs::Changes::changed_image, image::specs::Changes::acceptance))]
 pub fn apply_slash(
     pool: &mut PoolDataMut<'_>,
     delegation: &Delegation,

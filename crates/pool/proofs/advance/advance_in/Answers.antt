@@ -1,14 +1,6 @@
-use mathlib.Core.Path.{refl}
-use Rattle.std.proofs.lemmas.Result.{err_from_is_err_and}
 use Rattle.advance_plan.proofs.RowLaws.{marked_le}
-use Rattle.pool.proofs.AdvanceLaws.{seats_in, advance_refused, advance_done}
+use Rattle.pool.proofs.AdvanceLaws.{seats_in, advance_done}
 use Rattle.pool.proofs.advance.advance_in.Goals as goal
-
-pub returns-in_err-plan : goal.returns-in_err-plan
-returns-in_err-plan g c =
-    let p = err_from_is_err_and c.from_residual.result c.from_residual.ensures.1 in
-    let h = c.read.ensures in
-    advance_refused _ _ _ _ _ (rw (h.words, h.p, h.e) at c.in_err-plan.ensures.answer) (rw (p.1, p.2) refl)
 
 pub overflow_sub-pool : goal.overflow_sub-pool
 overflow_sub-pool g c =
