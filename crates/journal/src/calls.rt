@@ -105,6 +105,70 @@ pub fn call_of(name: &[u8]) -> Option<Call>
     with_name(&CALLS, name)
 }
 
+// The fields of the calls that have more than two, each with its name; first those that an advance and a forecast share.
+const EPOCH_FIELDS: [(&str, Kind); 5] = [
+    ("NOW", Kind::Number),
+    ("Y", Kind::Number),
+    ("CUSTODY", Kind::Number),
+    ("VERIFIED", Kind::Number),
+    ("CAPS", Kind::Message),
+];
+
+const PAYMENT_FIELDS: [(&str, Kind); 8] = [
+    ("NOW", Kind::Number),
+    ("PUBLISHER", Kind::Key),
+    ("ACCOUNT", Kind::Key),
+    ("RECORD_EPOCH", Kind::Number),
+    ("NEXT_INDEX", Kind::Number),
+    ("PUBLISHER_ACCOUNT", Kind::KeyOrNone),
+    ("CUSTODY_FLAG", Kind::Number),
+    ("POSITIONS", Kind::Positions),
+];
+
+const ADD_FIELDS: [(&str, Kind); 4] = [
+    ("NOW", Kind::Number),
+    ("PUBLISHER", Kind::Key),
+    ("ACCOUNT", Kind::Key),
+    ("AMOUNT", Kind::Number),
+];
+
+const REMOVE_FIELDS: [(&str, Kind); 5] = [
+    ("NOW", Kind::Number),
+    ("PUBLISHER", Kind::Key),
+    ("ACCOUNT", Kind::Key),
+    ("AMOUNT", Kind::Number),
+    ("STATE", Kind::State),
+];
+
+const CREATE_SLASH_EVENT_FIELDS: [(&str, Kind); 3] = [
+    ("NOW", Kind::Number),
+    ("PUBLISHER", Kind::Key),
+    ("INDEX", Kind::Number),
+];
+
+const SLASH_FIELDS: [(&str, Kind); 9] = [
+    ("NOW", Kind::Number),
+    ("PUBLISHER", Kind::Key),
+    ("ACCOUNT", Kind::Key),
+    ("RECORD_EPOCH", Kind::Number),
+    ("NEXT_INDEX", Kind::Number),
+    ("INDEX", Kind::Number),
+    ("EVENT_EPOCH", Kind::Number),
+    ("LOCKED", Kind::Number),
+    ("PREUNLOCKING", Kind::Number),
+];
+
+const STAKE_ACCOUNT_FIELDS: [(&str, Kind); 8] = [
+    ("PUBLISHER", Kind::Key),
+    ("SIGNER", Kind::Key),
+    ("AUTHORITY", Kind::Key),
+    ("OLD", Kind::KeyOrNone),
+    ("OLD_OWNER", Kind::KeyOrNone),
+    ("OLD_POSITIONS", Kind::Positions),
+    ("NEW", Kind::KeyOrNone),
+    ("NEW_POSITIONS", Kind::Positions),
+];
+
 impl Call {
     // The fields in order, each with its name.
     pub fn fields(self) -> &'static [(&'static str, Kind)]
@@ -119,70 +183,14 @@ impl Call {
             Call::Load => &[("PATH", Kind::Path)],
             Call::Save => &[("PATH", Kind::Path)],
             Call::Fresh => &[("EPOCH", Kind::Number)],
-            Call::Advance => &[
-                ("NOW", Kind::Number),
-                ("Y", Kind::Number),
-                ("CUSTODY", Kind::Number),
-                ("VERIFIED", Kind::Number),
-                ("CAPS", Kind::Message),
-            ],
-            Call::Forecast => &[
-                ("NOW", Kind::Number),
-                ("Y", Kind::Number),
-                ("CUSTODY", Kind::Number),
-                ("VERIFIED", Kind::Number),
-                ("CAPS", Kind::Message),
-            ],
-            Call::Payment => &[
-                ("NOW", Kind::Number),
-                ("PUBLISHER", Kind::Key),
-                ("ACCOUNT", Kind::Key),
-                ("RECORD_EPOCH", Kind::Number),
-                ("NEXT_INDEX", Kind::Number),
-                ("PUBLISHER_ACCOUNT", Kind::KeyOrNone),
-                ("CUSTODY_FLAG", Kind::Number),
-                ("POSITIONS", Kind::Positions),
-            ],
-            Call::Add => &[
-                ("NOW", Kind::Number),
-                ("PUBLISHER", Kind::Key),
-                ("ACCOUNT", Kind::Key),
-                ("AMOUNT", Kind::Number),
-            ],
-            Call::Remove => &[
-                ("NOW", Kind::Number),
-                ("PUBLISHER", Kind::Key),
-                ("ACCOUNT", Kind::Key),
-                ("AMOUNT", Kind::Number),
-                ("STATE", Kind::State),
-            ],
-            Call::CreateSlashEvent => &[
-                ("NOW", Kind::Number),
-                ("PUBLISHER", Kind::Key),
-                ("INDEX", Kind::Number),
-            ],
-            Call::Slash => &[
-                ("NOW", Kind::Number),
-                ("PUBLISHER", Kind::Key),
-                ("ACCOUNT", Kind::Key),
-                ("RECORD_EPOCH", Kind::Number),
-                ("NEXT_INDEX", Kind::Number),
-                ("INDEX", Kind::Number),
-                ("EVENT_EPOCH", Kind::Number),
-                ("LOCKED", Kind::Number),
-                ("PREUNLOCKING", Kind::Number),
-            ],
+            Call::Advance | Call::Forecast => &EPOCH_FIELDS,
+            Call::Payment => &PAYMENT_FIELDS,
+            Call::Add => &ADD_FIELDS,
+            Call::Remove => &REMOVE_FIELDS,
+            Call::CreateSlashEvent => &CREATE_SLASH_EVENT_FIELDS,
+            Call::Slash => &SLASH_FIELDS,
             Call::Fee => &[("FEE", Kind::Number)],
-            Call::StakeAccount => &[
-                ("PUBLISHER", Kind::Key),
-                ("SIGNER", Kind::Key),
-                ("AUTHORITY", Kind::Key),
-                ("OLD", Kind::KeyOrNone),
-                ("OLD_OWNER", Kind::KeyOrNone),
-                ("OLD_POSITIONS", Kind::Positions),
-                ("NEW", Kind::KeyOrNone),
-                ("NEW_POSITIONS", Kind::Positions),
-            ],
+            Call::StakeAccount => &STAKE_ACCOUNT_FIELDS,
             Call::Show => &[],
             Call::State => &[("EPOCH", Kind::Number), ("POSITION", Kind::Positions)],
             Call::Help => &[("CALL", Kind::Call)],
