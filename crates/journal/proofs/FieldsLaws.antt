@@ -5,7 +5,7 @@ use Rattle.std.specs.Str.{bytes_eq}
 use Rattle.text.specs.declared.items.WordError.{WordError}
 use Rattle.text.specs.Hex.{bytes_of, spelled}
 use Rattle.text.specs.Items.{items}
-use Rattle.text.specs.Words.{dash, comma, words_of, list_of}
+use Rattle.text.specs.Words.{dash, comma}
 use Rattle.text.proofs.HexLaws.{bytes_count}
 use Rattle.text.proofs.WordsLaws.{words_fit, words_within, list_within}
 use Rattle.journal.specs.declared.fault.Fault.{Fault}

@@ -202,10 +202,8 @@ impl Call {
     pub fn kind(self, k: usize) -> Option<Kind>
         ensures { result ≡ kind_of self k }
     {
-        match self.fields().get(k) {
-            Some((_, kind)) => Some(*kind),
-            None => None,
-        }
+        let (_, kind) = self.fields().get(k)?;
+        Some(*kind)
     }
 
     // Whether the call with its first k fields is whole.
