@@ -9,6 +9,7 @@ fn read_full(file: &mut impl Read, buffer: &mut [u8]) -> io::Result<usize>
     ensures { IfOk result (λ count. count ≤ length buffer.old) }
 {
     let mut done = 0;
+    // A `while`, since how far it goes depends on what each read brings.
     while done < buffer.len() {
         let count = file.read(&mut buffer[done..])?;
         if count == 0 {
@@ -44,6 +45,7 @@ pub fn load_all(
     ensures { IfOk result (λ count. count ≤ length room.old) }
 {
     let mut done = 0;
+    // A `while`, since the next words go behind those that came, however many they were.
     while done < room.len() {
         let count = load_some(&mut *file, &mut buffer[..], &mut room[done..])?;
         if count == 0 {

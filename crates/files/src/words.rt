@@ -11,6 +11,7 @@ pub fn take_words(s: &[u8], out: &mut [u64])
     ensures { out.new ≡ words_of s.now (length out.old) }
 {
     let (chunks, _) = s.as_chunks::<8>();
+    // By index: the proof over `out.iter_mut().zip(chunks)` does not close, since it has no name for what such a loop leaves in `out`.
     for (i, bytes) in chunks.iter().enumerate() {
         out[i] = u64::from_le_bytes(*bytes);
     }
@@ -21,6 +22,7 @@ pub fn give_words(words: &[u64], out: &mut [u8])
     requires { length out.old ≡ length words.now * 8 }
     ensures { out.new ≡ bytes_of words.now (length words.now) }
 {
+    // By index, as above.
     for (i, word) in words.iter().enumerate() {
         out[i * 8..i * 8 + 8].copy_from_slice(&word.to_le_bytes());
     }

@@ -57,7 +57,7 @@ pub fn counted(item: &[u8], stop: Stop) -> &[u8]
     }
 }
 
-// Standard input, and what was read of it: from `item` to `at` the item that was read last, from `at` to `end` what is not used yet.
+// Standard input, which has no equality, and what was read of it: from `item` to `at` the item that was read last, from `at` to `end` what is not used yet.
 #[derive(Drop)]
 pub struct Input {
     stdin: Stdin,
@@ -194,6 +194,7 @@ impl Input {
         ensures { IfOk result (λ stop. StopsAt stop self.new.buffer self.new.at self.new.end) }
     {
         self.item = self.at;
+        // A `loop`, since how often it goes depends on what each read brings.
         loop {
             let rest = &self.buffer[self.at..self.end];
             if let Some(count) = rest.iter().position(|b| matches!(b, b' ' | b'\n')) {

@@ -10,7 +10,7 @@ use std::io::{Stdout, Write};
 // The buffer's bytes.
 pub const ROOM: usize = 65536;
 
-// Standard output, what waits to be written to it, and whether every write so far took all its bytes.
+// Standard output, which has no equality, what waits to be written to it, and whether every write so far took all its bytes.
 #[derive(Drop)]
 pub struct Pen {
     stdout: Stdout,
