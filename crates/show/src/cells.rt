@@ -14,7 +14,7 @@ pub fn signed(word: u64) -> i64
 }
 
 // The lowest four bytes of a word, the lowest first, two hexadecimal digits each.
-#[derive(Clone, Copy)]
+#[derive(Clone, Copy, Debug, PartialEq, Eq)]
 pub struct FourBytes(pub u64);
 
 impl fmt::Display for FourBytes {
@@ -28,7 +28,7 @@ impl fmt::Display for FourBytes {
 }
 
 // A key in short: its first four bytes and its last four, or `none` for the zero key.
-#[derive(Clone, Copy)]
+#[derive(Clone, Copy, Debug, PartialEq, Eq)]
 pub struct ShortKey(pub Key);
 
 impl fmt::Display for ShortKey {

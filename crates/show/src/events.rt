@@ -10,7 +10,7 @@ use std::fmt;
 use std::fmt::Write;
 
 // What an event's line says.
-#[derive(Clone, Copy)]
+#[derive(Clone, Copy, Debug, PartialEq, Eq)]
 pub struct EventRow {
     pub event: u64,
     pub slot: usize,

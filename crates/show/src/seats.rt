@@ -13,7 +13,7 @@ use std::fmt;
 use std::fmt::Write;
 
 // What the two lines of a seat say.
-#[derive(Clone, Copy)]
+#[derive(Clone, Copy, Debug, PartialEq, Eq)]
 pub struct SeatRow {
     pub seat: usize,
     pub publisher: Key,
@@ -25,7 +25,7 @@ pub struct SeatRow {
 }
 
 // A side's total and its change.
-#[derive(Clone, Copy)]
+#[derive(Clone, Copy, Debug, PartialEq, Eq)]
 struct Side(DelegationState);
 
 impl fmt::Display for Side {
@@ -43,7 +43,7 @@ impl fmt::Display for Side {
 }
 
 // What a seat's first line says behind its side.
-#[derive(Clone, Copy)]
+#[derive(Clone, Copy, Debug, PartialEq, Eq)]
 struct Terms(SeatRow);
 
 impl fmt::Display for Terms {
@@ -97,6 +97,7 @@ pub fn occupied(pool: PoolData<'_>) -> usize
     ensures within { result ≤ pool.entry.p }
 {
     let mut count = 0;
+    // A `for`: the proof over `filter(..).count()` does not close, since what the test gives is known of seats below P alone.
     for s in 0..pool.p {
         count += usize::from(has_publisher(pool, s));
     }
