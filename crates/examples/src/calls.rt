@@ -15,7 +15,7 @@ use std::io::{self, Stdout};
 use types::refusals::Refusal;
 use types::{Amount, Epoch, Ratio};
 
-// An example: its name, and the image that its calls are made on, as one of p seats.
+// An example: its name, and the image that its calls are made on, as one of p seats. It holds standard output, which has no equality.
 #[derive(Clone, Copy)]
 pub struct Row<'a> {
     pub to: Stdout,

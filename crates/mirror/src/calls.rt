@@ -53,6 +53,7 @@ fn payment_values(paid: Payment) -> [u64; 6]
 fn nonzero(image: &[u64], pen: &mut Pen) {
     pen.text("ok");
     let mut place = next_nonzero(image, 0);
+    // A `while`, since next_nonzero says in its contract which words are passed over; a `for` over all words would have none.
     while place < image.len() {
         pen.byte(b' ');
         pen.number(place as u64);
@@ -81,7 +82,8 @@ fn done(made: Result<(), Refusal>, pen: &mut Pen) -> Result<(), Refusal>
     Ok(())
 }
 
-// Makes a line's call, and answers unless it is refused or the line is wrong.
+// Makes a line's call, and answers unless it is refused or the line is wrong. Without a clause: each call's function says what it answers and leaves, and
+// what stands in the pen depends on how much of it was written out.
 pub fn make_call(
     call: Call,
     rt: &impl Files,

@@ -30,7 +30,8 @@ fn no_input(fault: Fault) -> Wrong {
     }
 }
 
-// What a run carries from line to line: input and the line's number, its fields, the site, and the answers.
+// What a run carries from line to line: input and the line's number, its fields, the site, the answers, and whether people type the lines, which is
+// asked once, before a terminal can go away. Standard input and output have no equality.
 #[derive(Drop)]
 struct Run {
     input: Input,
