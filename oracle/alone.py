@@ -209,6 +209,6 @@ def tried(work):
 def run(mirror, work):
     """Every case: its name, what is wrong or nothing, the kind of wrong line that it met."""
     a = Alone(mirror, work)
-    for part in (a.inputs, a.unreadable, a.unwritable, a.terminals, a.script, a.loads, a.saves, a.limits, a.written_through, a.full_disk, a.killed, a.at_once):
+    for part in (a.inputs, a.unreadable, a.unwritable, a.terminals, a.script, a.loads, a.saves, a.limits, a.written_through, a.failing_input, a.full_disk, a.killed, a.at_once):
         yield from part()
     shutil.rmtree(a.folder, ignore_errors=True)

@@ -11,14 +11,15 @@ import time
 
 import model
 from alone_terminal import Terminals
-from forms import IMAGE_ROOM, LARGEST, READ, THROUGH, WRITTEN
+from forms import IMAGE_ROOM, INPUT, LARGEST, READ, THROUGH, WRITTEN
 from runs import LIMIT, NOBODY, Limit, filled, image, told
 
 MILLION = 1_000_000
 KILLS = PAIRS = 300
 FULL = 8 * LARGEST
 
-# Stands between the program and the system's calls: notes those of a save, and fails the one that $FAIL names. A file named `midway` can be read once.
+# Stands between the program and the system's calls: notes those of a save, and fails the one that $FAIL names. A file named `midway` can be read once; of
+# standard input `input N` names a read by its number, the first being 1.
 WATCH = r"""
 #define _GNU_SOURCE
 #include <dlfcn.h>
@@ -102,7 +103,11 @@ int close(int fd)
 
 ssize_t read(int fd, void *to, size_t n)
 {
-    static int reads;
+    static int reads, inputs;
+    char input[40];
+    snprintf(input, sizeof input, "input %d", fd ? 0 : ++inputs);
+    if (fails(input))
+        return -1;
     const char *name = fd > 2 ? name_of(fd) : "";
     const char *last = strrchr(name, '/');
     if (last && !strcmp(last, "/midway") && reads++) {
@@ -328,12 +333,12 @@ class Files(Terminals):
             f.write(WATCH)
         return shutil.which("cc") is not None and subprocess.run(["cc", "-shared", "-fPIC", "-o", self.library, source]).returncode == 0
 
-    def watched(self, journal, fail="", terminal=False, **how):
-        """A run with the library, by a pipe or by a terminal, and what was noted of its saves."""
+    def watched(self, journal, fail="", terminal=False, given="", **how):
+        """A run with the library, by a pipe, by a terminal or by a file, and what was noted of its saves."""
         notes = os.path.join(self.work, "notes")
         open(notes, "w").close()
         os.chmod(notes, 0o666)
-        how.update(script='LD_PRELOAD=$LIBRARY exec "$M"', env={"LIBRARY": self.library, "NOTES": notes, "FAIL": fail})
+        how.update(script='LD_PRELOAD=$LIBRARY exec "$M"' + given, env={"LIBRARY": self.library, "NOTES": notes, "FAIL": fail})
         got = self.typed(journal, **how) if terminal else self.shell(how.pop("script"), [journal.encode()], **how)
         with open(notes) as f:
             return got, [line.replace(f".{self.pid}.", ".PID.") for line in f.read().splitlines()]
@@ -388,6 +393,22 @@ class Files(Terminals):
         got, _ = self.watched("new 1 1\nfresh 9\nload midway\nnonzero\nsave pool\nquit\n", terminal=True)
         yield self.verdict("load, by a terminal, a file whose reading fails midway: the image stays", got, "ok 29\nok\n" + told(f"load PATH: {READ}", 3) + "ok 0:8\nok 29\nok\n",
                            more=self.files_wrong(pool=new, midway=None))
+
+    # Input that can't be read once.
+
+    def failing_input(self):
+        """A read that fails within what is passed over ends the run, though the next one would not fail. The program holds 131,072 bytes at once, and the item at hand moves to
+        the front before more is read: the first read ends within the field, the second fills the room behind it."""
+        if not self.watch():
+            yield self.untried("input that can't be read once", "no cc to build the library that stands between")
+            return
+        self.clean()
+        for says, journal, read in (
+                ("within a comment", b"#" + b"x" * 131_071 + b"nonzero\n", 2), ("within a message that is too long", b"advance 10 10000 0 1 " + b"a" * 131_072 + b" 5\n", 3),
+                ("within a list that is too long", b"state 8 " + b"0," * 65_536 + b" 5\n", 3)):
+            self.put("given", journal)
+            got, _ = self.watched("", f"input {read}", given=" <given")
+            yield self.verdict(f"input that can't be read once, {says}", got, told(INPUT))
 
     # A full disk.
 
