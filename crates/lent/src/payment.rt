@@ -12,7 +12,8 @@ use positions::Key;
 use positions::position::Position;
 use types::refusals::Refusal;
 
-// What a payment is given besides the pool, the positions and the record.
+// What a payment is given besides the pool, the positions and the record: a `Claim` without its record. That one is lent by `&mut`, and a struct
+// that held it could not be copied or compared.
 #[derive(Clone, Copy, Debug, PartialEq, Eq)]
 pub struct LentClaim {
     pub publisher: Key,
@@ -45,7 +46,7 @@ impl LentClaim {
 
 // The positions of an account are paid what they have earned with one publisher, and the lent record moves to the current epoch. A refused
 // payment leaves it as it was.
-#[tactic(auto, using(crate::proofs::PaymentLaws::lent_1, crate::proofs::PaymentLaws::lent_4))]
+#[tactic(auto, using(crate::proofs::RecordLaws::few, crate::proofs::PaymentLaws::gathered_records, integrity_pool::proofs::PaymentLaws::gathered_pays), unfolding(integrity_pool::specs::Payment::payment_call, integrity_pool::specs::Payment::gathered_call))]
 pub fn advance_delegation_record(
     pool: &mut [u64],
     p: usize,

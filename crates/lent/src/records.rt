@@ -6,7 +6,8 @@ ghost use Rattle.event_amounts.specs.Records.{records_words, record_holds};
 use positions::list::MAX_POSITIONS;
 use positions::position::Position;
 
-// Whether one record is as it should be. The flag of an empty one is not read.
+// Whether one record is as it should be. The flag of an empty one is not read. `holds` of positions asks the same of nine words: a lent record
+// does not stand in such words, and would have to be written out to ask it there.
 #[tactic(auto, unfolding(event_amounts::specs::Records::record_holds))]
 fn record_holds(position: &Position) -> bool
     ensures { result ≡ record_holds position.now }

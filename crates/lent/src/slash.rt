@@ -10,7 +10,7 @@ use pool::changes::Delegation;
 use types::refusals::Refusal;
 use types::{Amount, Epoch};
 
-// What a slash is given besides the pool and the record.
+// What a slash is given besides the pool and the record: a `Slashing` without its record, which is lent as in a `LentClaim`.
 #[derive(Clone, Copy, Debug, PartialEq, Eq)]
 pub struct LentSlashing {
     pub delegation: Delegation,
