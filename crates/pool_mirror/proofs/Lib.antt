@@ -1,3 +1,2 @@
 pub mod InputLaws
-pub mod AnswerLaws
 pub mod RefusalLaws

@@ -12,7 +12,7 @@ use positions::Key;
 use types::{Amount, Epoch};
 
 // The publisher's next slash event. The answer: its epoch, the current one.
-#[tactic(auto, using(crate::proofs::AnswerLaws::created_refused, crate::proofs::AnswerLaws::created_accepted), unfolding(crate::specs::Inputs::key_of))]
+#[tactic(auto, unfolding(crate::specs::Inputs::key_of, integrity_pool::specs::Changes::created_in))]
 #[unsafe(no_mangle)]
 pub extern "C" fn pool_mirror_create_slash_event(
     pool: &mut [u64],
@@ -62,7 +62,7 @@ fn slashing(
 }
 
 // What a slash event took from an account leaves the publisher's totals, and the record moves past the event.
-#[tactic(auto, using(crate::proofs::AnswerLaws::slashed_refused, crate::proofs::AnswerLaws::slashed_accepted))]
+#[tactic(auto, unfolding(integrity_pool::specs::Changes::slashed_with))]
 #[unsafe(no_mangle)]
 pub extern "C" fn pool_mirror_slash(
     pool: &mut [u64],

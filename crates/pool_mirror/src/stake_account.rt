@@ -35,7 +35,7 @@ fn accounts(
 }
 
 // A publisher's stake account is set, changed or taken away.
-#[tactic(auto, using(crate::proofs::AnswerLaws::change_number))]
+#[tactic(auto, unfolding(image::specs::Changes::acceptance))]
 #[unsafe(no_mangle)]
 pub extern "C" fn pool_mirror_stake_account(
     pool: &mut [u64],
