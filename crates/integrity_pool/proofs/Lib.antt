@@ -7,9 +7,6 @@ pub mod PaymentTells
 pub mod PaymentAbove
 pub mod PaymentLaws
 pub mod PaymentExamples
-pub mod ChangeLaws
-pub mod SlashLaws
-pub mod StakeAccountLaws
 pub mod ChangeTells
 pub mod ChangeExamples
 pub mod Fixed

@@ -11,6 +11,7 @@ use types::refusals::Refusal;
 use types::{Amount, FRAC_64_MULTIPLIER, Ratio};
 
 // An account's stake with a publisher grows from the next epoch on.
+#[tactic(auto, unfolding(crate::specs::Changes::add_call, crate::proofs::CallLaws::changes))]
 pub fn add_delegation(
     pool: &mut [u64],
     p: usize,
@@ -26,6 +27,7 @@ pub fn add_delegation(
 }
 
 // It falls, by the state of the position that it is taken from.
+#[tactic(auto, unfolding(crate::specs::Changes::remove_call, crate::proofs::CallLaws::changes))]
 pub fn remove_delegation(
     pool: &mut [u64],
     p: usize,
@@ -47,6 +49,7 @@ pub fn remove_delegation(
 }
 
 // Every seat gets this fee; events already written keep theirs.
+#[tactic(auto, unfolding(crate::specs::Changes::fee_call, crate::proofs::CallLaws::changes))]
 pub fn update_delegation_fee(
     pool: &mut [u64],
     p: usize,

@@ -26,6 +26,7 @@ pub mod stake_account;
 const MAX_Y: u64 = 10_000;
 
 // Item 9's fresh pool: every word zero but the last epoch, one below the given one.
+#[tactic(auto, using(image::proofs::SeatLaws::sized_says, image::proofs::HoldsLaws::fresh_image_law), unfolding(crate::specs::Calls::fresh_call, crate::specs::Calls::fresh_image))]
 pub fn fresh(pool: &mut [u64], p: usize, e: usize, epoch: u64) -> Result<(), Refusal>
     ensures answer { outcome_of result ≡ fresh_call p e pool.old epoch }
     ensures image { pool.new ≡ fresh_image p e pool.old epoch }
@@ -41,7 +42,9 @@ pub fn fresh(pool: &mut [u64], p: usize, e: usize, epoch: u64) -> Result<(), Ref
     Ok(())
 }
 
-// What an advance and a forecast check before the pool itself is looked at: 1, 2, 3 and 5.
+// What an advance and a forecast check before the pool itself is looked at: 1, 2, 3 and 5. It takes P and E beside the words, as the pool is not
+// checked yet, and says what was checked in clauses, as the pool is lent anew for the writes.
+#[tactic(auto, using(image::proofs::SeatLaws::checked_says), unfolding(crate::specs::Calls::checked_then))]
 fn check_inputs<'a>(
     pool: &[u64],
     p: usize,
@@ -65,6 +68,7 @@ fn check_inputs<'a>(
 }
 
 // Items 4 and 5: the epochs up to the current one are passed.
+#[tactic(auto, unfolding(crate::specs::Calls::advance_call, crate::specs::Calls::advance_image, crate::specs::Calls::checked_then, pool::specs::Answers::image_after))]
 pub fn advance(
     pool: &mut [u64],
     p: usize,
@@ -80,6 +84,7 @@ pub fn advance(
 }
 
 // What an advance would set aside, every passed epoch taken at the rolled totals.
+#[tactic(auto, unfolding(crate::specs::Calls::forecast_call, crate::specs::Calls::checked_then))]
 pub fn forecast(pool: &[u64], p: usize, e: usize, m: &[u8], given: Given) -> Result<Amount, Refusal>
     ensures { outcome_by amount_as result ≡ forecast_call p e pool.now m.now given }
 {

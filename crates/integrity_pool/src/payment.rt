@@ -100,6 +100,7 @@ fn custody_fall(
 }
 
 // What is paid of what has been earned.
+#[tactic(auto, unfolding(crate::specs::Payment::pay_out))]
 fn pay(
     claimable: u64,
     stake_account: Key,
@@ -127,6 +128,7 @@ fn pay(
 }
 
 // A payment on a checked image, nothing written.
+#[tactic(auto, using(image::proofs::SeatLaws::index_lt), unfolding(crate::specs::Payment::gathered_payment, crate::specs::Payment::gathered_payment_at, pool::specs::Reward::reward_of, pool::specs::Changes::up_to_date))]
 fn payment_of(
     pool: PoolData<'_>,
     gathered: Option<EventAmounts>,
@@ -147,6 +149,7 @@ fn payment_of(
 
 // The amounts that an account's positions have gathered are paid what they have earned: what is paid leaves claimable. It is the same whether
 // the positions came as words or as records.
+#[tactic(auto, using(crate::proofs::PaymentLaws::gathered_covered, crate::proofs::PaymentLaws::paid_image_law), unfolding(crate::specs::Payment::gathered_call))]
 pub fn pay_gathered(
     pool: &mut [u64],
     p: usize,
@@ -166,6 +169,7 @@ pub fn pay_gathered(
 }
 
 // The positions of an account are paid what they have earned with one publisher, and the record moves to the current epoch.
+#[tactic(auto, using(event_amounts::proofs::NinesLaws::gathered_nines, crate::proofs::PaymentLaws::gathered_pays), unfolding(crate::specs::Payment::payment_call, crate::specs::Payment::payment_image, crate::specs::Payment::gathered_call))]
 pub fn advance_delegation_record(
     pool: &mut [u64],
     p: usize,

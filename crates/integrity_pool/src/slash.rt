@@ -27,6 +27,7 @@ pub struct Slashing {
 }
 
 // The publisher's next slash event, in the current epoch, which is the answer.
+#[tactic(auto, using(image::proofs::SeatLaws::index_lt), unfolding(crate::specs::Changes::create_slash_event_call, crate::specs::Changes::create_at, crate::specs::Changes::created_in, crate::proofs::CallLaws::changes))]
 pub fn create_slash_event(
     pool: &mut [u64],
     p: usize,
@@ -83,6 +84,7 @@ fn slash_order(slashing: &Slashing) -> Result<u64, Refusal>
 }
 
 // A slash in its turn changes the pool where it is of the current epoch: one older changes the record alone.
+#[tactic(auto, using(image::proofs::HoldsLaws::holds_is), unfolding(crate::specs::Changes::slash_change, image::specs::Changes::acceptance, image::specs::Changes::changed_image))]
 fn slash_in_turn(pool: &mut PoolDataMut<'_>, slashing: &Slashing) -> Result<(), Refusal>
     ensures { ChangesAs pool.old pool.new (slash_change pool.old.p (words_in pool.old) slashing.now) result }
 {
@@ -95,6 +97,7 @@ fn slash_in_turn(pool: &mut PoolDataMut<'_>, slashing: &Slashing) -> Result<(), 
 }
 
 // What a slash event took from an account leaves the publisher's totals, and the record moves past the event: the answer is the record to keep.
+#[tactic(auto, unfolding(crate::specs::Changes::slash_call, crate::specs::Changes::slashed_with, crate::proofs::CallLaws::changes))]
 pub fn slash(
     pool: &mut [u64],
     p: usize,

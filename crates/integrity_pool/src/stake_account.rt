@@ -88,6 +88,7 @@ fn new_account(new: &[u64], publisher: Key, account: Option<Key>) -> Result<Key,
 }
 
 // A publisher's stake account is set, changed or taken away.
+#[tactic(auto, using(image::proofs::SeatLaws::index_lt), unfolding(crate::specs::Changes::stake_account_call, crate::specs::Changes::stake_account_at_seat, crate::proofs::CallLaws::changes))]
 pub fn set_publisher_stake_account(
     pool: &mut [u64],
     p: usize,
