@@ -1,40 +1,33 @@
 -- Each call's refusals are those of its list (specs/Refusals), and a function returns 0 exactly where its call is accepted. Assumes nothing.
 use mathlib.Core.Path.{◌≡◌, refl, sym, ap, ◌∙◌, subst}
-use mathlib.Core.Bool.{Bool, true, false, not, ◌&&◌, ◌||◌}
+use mathlib.Core.Bool.{Bool, true, false}
 use mathlib.Core.List.{List}
-use Prim.Native.Nat.{ℕ, ◌+◌, ◌/◌, ◌<◌}
+use Prim.Native.Nat.{ℕ, ◌<◌}
 use native.Mathlib.Omega.{arith}
-use lib.Dec.{eqb, ltb, leb}
-use lib.ListN.{length, get_or}
 use Rattle.std.specs.Prelude.{if◌then◌else◌}
-use Rattle.types.specs.Base.{M, word, half, Outcome, refused, accepted, map_outcome, and_then, is_accepted, sum_below, all_below}
+use Rattle.types.specs.Base.{Outcome, refused, accepted, map_outcome, and_then, is_accepted}
 use Rattle.types.specs.Refusals.{invalid_image, invalid_publisher, publisher_not_found, outdated_publisher_accounting, does_not_fit, unexpected_position_state}
 use Rattle.positions.specs.declared.Key.{Key}
 use Rattle.std.specs.Prelude.{Option, Some, None}
 use Rattle.positions.specs.declared.position.PositionState.{PositionState}
 use Rattle.positions.specs.declared.position.PositionState.TheVariants.{LOCKING, LOCKED, PREUNLOCKING, UNLOCKING, UNLOCKED}
-use Rattle.positions.specs.Key.{same_key}
-use Rattle.positions.specs.Positions.{position_holds, positions_hold, has_publisher}
 use Rattle.positions.specs.State.{state_by, state_call}
-use Rattle.publisher_caps.specs.Message.{message_holds, negative_time, time_of}
-use Rattle.event.specs.Adjust.{rewards_of, adjust_of}
+use Rattle.event.specs.Adjust.{adjust_of}
 use Rattle.event.specs.Event.{Parts}
 use Rattle.delegation.specs.Side.{Side, raised_of, lowered_of, add_of, remove_in, remove_of, slash_of}
-use Rattle.image.specs.Layout.{last_updated_epoch, claimable_rewards, num_events, num_slash_events, head, seat, Words, read}
-use Rattle.image.specs.Seats.{sized_image, checked_image, zero_key, seats_of, first_seat, publisher_index_of}
-use Rattle.image.specs.Changes.{Change}
+use Rattle.image.specs.Layout.{Words}
+use Rattle.image.specs.Seats.{publisher_index_of}
 use Rattle.advance_plan.specs.declared.Given.{Given}
-use Rattle.advance_plan.specs.Advance.{seat_rolls, passed_of, adjustment_of, advance_of, forecast_of}
+use Rattle.advance_plan.specs.Advance.{adjustment_of, advance_of, forecast_of}
 use Rattle.pool.specs.declared.changes.Delegation.{Delegation}
-use Rattle.event_walk.specs.Walk.{gather_fits}
-use Rattle.pool.specs.Reward.{delegator_in, publisher_in, reward_sum, calculate_reward}
-use Rattle.pool.specs.Changes.{up_to_date, delegation_seat, slash_seat, side_change, add_delegation, remove_delegation, apply_slash}
+use Rattle.pool.specs.Reward.{reward_sum, calculate_reward}
+use Rattle.pool.specs.Changes.{delegation_seat, slash_seat, side_change, add_delegation, remove_delegation, apply_slash}
 use Rattle.integrity_pool.specs.declared.payment.Claim.{Claim}
 use Rattle.integrity_pool.specs.declared.slash.Slashing.{Slashing}
 use Rattle.integrity_pool.specs.declared.stake_account.StakeAccounts.{StakeAccounts}
 use Rattle.integrity_pool.specs.Calls.{fresh_call, checked_then, advance_call, forecast_call}
 use Rattle.integrity_pool.specs.Payment.{custody_fall, pay_out, payment_at, payment_of, payment_call}
-use Rattle.integrity_pool.specs.Changes.{checked_image_then, add_call, remove_call, create_at, create_slash_event_call, wrong_order, slash_order, slash_change, slash_call, fee_call, account_holds, first_account, later_account, may_change, new_account, stake_account_at_seat, stake_account_call}
+use Rattle.integrity_pool.specs.Changes.{checked_image_then, add_call, remove_call, create_at, create_slash_event_call, slash_order, slash_change, slash_call, fee_call, first_account, later_account, may_change, new_account, stake_account_at_seat, stake_account_call}
 use Rattle.pool_mirror.proofs.InputLaws.{is_other}
 use Rattle.pool_mirror.specs.Inputs.{state_of}
 use Rattle.pool_mirror.specs.Answers.{number_of}
@@ -66,202 +59,172 @@ module _ {A B : Type 0} (ks : List ℕ) where
   map_in f (refused n) p = p
   map_in f (accepted a) p = tt
 
+ruleset among = (if_in, then_in, map_in, accepted_in, refused_in)
+
 -- ---- what several calls share
 
 module _ (ks : List ℕ) where
-  image_in : {A : Type 0} (P E : ℕ) (img : List ℕ) (rest : Outcome A) → has ks invalid_image ≡ true → Among ks rest → Among ks (checked_image_then P E img rest)
+  image_in : {A : Type 0} (P E : ℕ) (img : List ℕ) (rest : Outcome A) → has ks invalid_image ≡ true → Among ks rest
+      → Among ks (checked_image_then P E img rest)
   unfolding checked_image_then
-  image_in P E img rest e p = if_in ks (checked_image P E img) _ _ p (refused_in _ ks _ e)
+  image_in P E img rest e p = search among
 
   index_in :
       (P : ℕ) (w : Words) (key : Key) → has ks invalid_publisher ≡ true → has ks publisher_not_found ≡ true → Among ks (publisher_index_of P w key)
   unfolding publisher_index_of
-  index_in P w key a b = if_in ks (same_key key zero_key) _ _ (refused_in _ ks _ a) (if_in ks (ltb (first_seat P w key) P) _ _ (accepted_in ks _) (refused_in _ ks _ b))
+  index_in P w key a b = search among
 
   module _ (fit : has ks does_not_fit ≡ true) where
     raised_in : (change amount : ℕ) → Among ks (raised_of change amount)
     unfolding raised_of
-    raised_in change amount = if_in ks (leb half amount) _ _ (refused_in _ ks _ fit) (if_in ks (ltb change half && leb half (change + amount)) _ _ (refused_in _ ks _ fit) (accepted_in ks _))
+    raised_in change amount = search among
 
     lowered_in : (change amount : ℕ) → Among ks (lowered_of change amount)
     unfolding lowered_of
-    lowered_in change amount = if_in ks (leb half amount) _ _ (refused_in _ ks _ fit) (if_in ks (leb half change && ltb change (half + amount)) _ _ (refused_in _ ks _ fit) (accepted_in ks _))
+    lowered_in change amount = search among
 
     add_in : (total change amount : ℕ) → Among ks (add_of total change amount)
     unfolding add_of
-    add_in total change amount = map_in ks _ _ (raised_in change amount)
+    add_in total change amount = search (among, raised_in)
 
     slash_in : (total change locked preunlocking : ℕ) → Among ks (slash_of total change locked preunlocking)
     unfolding slash_of
-    slash_in total change locked preunlocking = if_in ks (ltb total (locked + preunlocking)) _ _ (refused_in _ ks _ fit) (map_in ks _ _ (raised_in change preunlocking))
+    slash_in total change locked preunlocking = search (among, raised_in)
 
     module _ (state15 : has ks unexpected_position_state ≡ true) where
       state_in : (s : PositionState) (total change amount : ℕ) → Among ks (remove_in s total change amount)
-      state_in LOCKED total change amount = map_in ks _ _ (lowered_in change amount)
-      state_in LOCKING total change amount = map_in ks _ _ (lowered_in change amount)
-      state_in UNLOCKED total change amount = accepted_in ks _
-      state_in PREUNLOCKING total change amount = refused_in _ ks _ state15
-      state_in UNLOCKING total change amount = refused_in _ ks _ state15
+      state_in LOCKED total change amount = search (among, lowered_in)
+      state_in LOCKING total change amount = search (among, lowered_in)
+      state_in UNLOCKED total change amount = search among
+      state_in PREUNLOCKING total change amount = search among
+      state_in UNLOCKING total change amount = search among
 
       remove_in_law : (s : PositionState) (total change amount : ℕ) → Among ks (remove_of total change amount s)
       unfolding remove_of
-      remove_in_law s total change amount = if_in ks (leb half amount) _ _ (refused_in _ ks _ fit) (state_in s total change amount)
+      remove_in_law s total change amount = search (among, state_in)
 
   side_in :
-      (w : Words) (d : Delegation) (becomes : (total change : ℕ) → Outcome Side) (s : ℕ) → ((total change : ℕ) → Among ks (becomes total change)) →
-      Among ks (side_change w d becomes s)
+      (w : Words) (d : Delegation) (becomes : (total change : ℕ) → Outcome Side) (s : ℕ) → ((total change : ℕ) → Among ks (becomes total change))
+      → Among ks (side_change w d becomes s)
   unfolding side_change
-  side_in w d becomes s p = map_in ks _ _ (p _ _)
+  side_in w d becomes s p = search among
 
-  module _ (P : ℕ) (w : Words) (d : Delegation) (a : has ks invalid_publisher ≡ true) (b : has ks publisher_not_found ≡ true) (c : has ks outdated_publisher_accounting ≡ true) where
+  module _ (P : ℕ) (w : Words) (d : Delegation) (a : has ks invalid_publisher ≡ true) (b : has ks publisher_not_found ≡ true)
+      (c : has ks outdated_publisher_accounting ≡ true) where
     delegation_seat_in : Among ks (delegation_seat P w d)
     unfolding delegation_seat
-    delegation_seat_in = then_in ks _ _ (index_in P w d.publisher a b) (λ s. if_in ks (up_to_date w d.current_epoch) _ _ (accepted_in ks _) (refused_in _ ks _ c))
+    delegation_seat_in = search (among, index_in)
 
     slash_seat_in : Among ks (slash_seat P w d)
     unfolding slash_seat
-    slash_seat_in = if_in ks (up_to_date w d.current_epoch) _ _ (index_in P w d.publisher a b) (refused_in _ ks _ c)
+    slash_seat_in = search (among, index_in)
 
 -- ---- the calls
 
 module _ (P E : ℕ) (img : List ℕ) where
   pub fresh_refusals_law : (given : ℕ) → Among fresh_refusals (fresh_call P E img given)
   unfolding fresh_call
-  fresh_refusals_law given = if_in _ (not (sized_image P E img)) _ _ (refused_in _ _ _ refl) (if_in _ (eqb given 0) _ _ (refused_in _ _ _ refl) (accepted_in _ _))
+  fresh_refusals_law given = search among
 
   adjust_in : (T y claimable custody : ℕ) → Among advance_refusals (adjust_of T y claimable custody)
   unfolding adjust_of
-  adjust_in T y claimable custody =
-      if_in _ (leb word (rewards_of T y + claimable)) _ _ (refused_in _ _ _ refl) (if_in _ (leb (rewards_of T y + claimable) custody) _ _ (accepted_in _ _) (if_in _ (ltb custody claimable) _ _ (refused_in _ _ _ refl) (accepted_in _ _)))
+  adjust_in T y claimable custody = search among
 
   adjustment_in : (w : Words) (m : List ℕ) (g : Given) (sum : ℕ) → Among advance_refusals (adjustment_of P w m g sum)
   unfolding adjustment_of
-  adjustment_in w m g sum =
-      if_in _ (not (eqb g.is_verified 1)) _ _ (refused_in _ _ _ refl)
-      (if_in _ (leb g.current_epoch (w (head last_updated_epoch))) _ _ (refused_in _ _ _ refl)
-      (if_in _ (negative_time m) _ _ (refused_in _ _ _ refl)
-      (if_in _ (not (eqb g.current_epoch (time_of m / g.epoch_duration))) _ _ (refused_in _ _ _ refl)
-      (if_in _ (not (all_below (seats_of P w) (seat_rolls w))) _ _ (refused_in _ _ _ refl)
-      (if_in _ (leb word sum) _ _ (refused_in _ _ _ refl) (if_in _ (leb half (w (head num_events) + passed_of w g)) _ _ (refused_in _ _ _ refl) (adjust_in _ _ _ _)))))))
+  adjustment_in w m g sum = search (among, adjust_in) depth 20
 
   checked_in : {A : Type 0} (m : List ℕ) (g : Given) (rest : Outcome A) → Among advance_refusals rest → Among advance_refusals (checked_then P E img m g rest)
   unfolding checked_then
-  checked_in m g rest p =
-      if_in _ (not (checked_image P E img)) _ _ (refused_in _ _ _ refl)
-      (if_in _ (eqb g.epoch_duration 0) _ _ (refused_in _ _ _ refl) (if_in _ (not (message_holds m)) _ _ (refused_in _ _ _ refl) (if_in _ (ltb 10_000 g.y) _ _ (refused_in _ _ _ refl) p)))
+  checked_in m g rest p = search among depth 20
 
   pub advance_refusals_law : (m : List ℕ) (g : Given) → Among advance_refusals (advance_call P E img m g)
   unfolding advance_call advance_of
-  advance_refusals_law m g = checked_in m g _ (map_in _ _ _ (adjustment_in _ m g _))
+  advance_refusals_law m g = search (among, checked_in, adjustment_in)
 
   pub forecast_refusals : (m : List ℕ) (g : Given) → Among advance_refusals (forecast_call P E img m g)
   unfolding forecast_call forecast_of
-  forecast_refusals m g = checked_in m g _ (map_in _ _ _ (adjustment_in _ m g _))
+  forecast_refusals m g = search (among, checked_in, adjustment_in)
 
   fall_in : (found : Key) (account : Option Key) (custody delegator both : ℕ) → Among payment_refusals (custody_fall found account custody delegator both)
   unfolding custody_fall
-  fall_in found (Some key) custody delegator both =
-      if_in _ (not (same_key found key)) _ _ (refused_in _ _ _ refl) (if_in _ (eqb custody 0) _ _ (refused_in _ _ _ refl) (accepted_in _ _))
-  fall_in found None custody delegator both = if_in _ (not (same_key found zero_key)) _ _ (refused_in _ _ _ refl) (accepted_in _ _)
+  fall_in found (Some key) custody delegator both = search among
+  fall_in found None custody delegator both = search among
 
   sum_in : (n : ℕ) (f : ℕ → Outcome Parts) → Among payment_refusals (reward_sum n f)
   unfolding reward_sum
-  sum_in n f = if_in _ (not (all_below n (λ k. is_accepted (f k)))) _ _ (refused_in _ _ _ refl) (if_in _ (leb word (sum_below n (λ k. delegator_in (f k)) + sum_below n (λ k. publisher_in (f k)))) _ _ (refused_in _ _ _ refl) (accepted_in _ _))
+  sum_in n f = search among
 
   payment_at_in : (w : Words) (words : List ℕ) (c : Claim) (s : ℕ) → Among payment_refusals (payment_at E w words c s)
   unfolding payment_at calculate_reward pay_out
-  payment_at_in w words c s =
-      if_in _ (not (eqb (w (head last_updated_epoch)) c.current_epoch)) _ _ (refused_in _ _ _ refl)
-      (then_in _ _ _ (if_in _ (not (gather_fits E w words c.publisher c.delegation_record.last_epoch.0 c.unlocking_duration)) _ _ (refused_in _ _ _ refl) (map_in _ _ _ (sum_in _ _)))
-      (λ r. if_in _ (ltb (w (head claimable_rewards)) (r.delegator + r.publisher)) _ _ (refused_in _ _ _ refl) (then_in _ _ _ (fall_in _ _ _ _ _) (λ fall. accepted_in _ _))))
+  payment_at_in w words c s = search (among, sum_in, fall_in) depth 20
 
   pub payment_refusals_law : (words : List ℕ) (c : Claim) → Among payment_refusals (payment_call P E img words c)
   unfolding payment_call payment_of
-  payment_refusals_law words c =
-      if_in _ (not (checked_image P E img)) _ _ (refused_in _ _ _ refl)
-      (if_in _ (not (positions_hold words)) _ _ (refused_in _ _ _ refl) (then_in _ _ _ (index_in _ _ _ _ refl refl) (λ s. payment_at_in _ words c s)))
+  payment_refusals_law words c = search (among, index_in, payment_at_in) depth 20
 
   pub add_refusals_law : (d : Delegation) (amount : ℕ) → Among add_refusals (add_call P E img d amount)
   unfolding add_call add_delegation
-  add_refusals_law d amount =
-      image_in _ P E img _ refl
-      (then_in _ _ _ (delegation_seat_in _ _ _ d refl refl refl) (λ s. side_in _ _ d _ s (λ total change. add_in _ refl total change amount)))
+  add_refusals_law d amount = search (among, image_in, delegation_seat_in, side_in, add_in) depth 20
 
   pub remove_refusals_law : (d : Delegation) (amount : ℕ) (state : PositionState) → Among remove_refusals (remove_call P E img d amount state)
   unfolding remove_call remove_delegation
-  remove_refusals_law d amount state =
-      image_in _ P E img _ refl
-      (then_in _ _ _ (delegation_seat_in _ _ _ d refl refl refl) (λ s. side_in _ _ d _ s (λ total change. remove_in_law _ refl refl state total change amount)))
+  remove_refusals_law d amount state = search (among, image_in, delegation_seat_in, side_in, remove_in_law) depth 20
 
   pub create_refusals_law : (publisher : Key) (index : ℕ) → Among create_refusals (create_slash_event_call P E img publisher index)
   unfolding create_slash_event_call create_at
-  create_refusals_law publisher index =
-      image_in _ P E img _ refl
-      (then_in _ _ _ (index_in _ _ _ _ refl refl) (λ s. if_in _ (not (eqb (read P E img (seat s num_slash_events)) index)) _ _ (refused_in _ _ _ refl) (if_in _ (leb word (index + 1)) _ _ (refused_in _ _ _ refl) (accepted_in _ _))))
+  create_refusals_law publisher index = search (among, image_in, index_in) depth 20
 
   order_in : (x : Slashing) → Among slash_refusals (slash_order x)
   unfolding slash_order
-  order_in x =
-      if_in _ (not (eqb x.delegation_record.last_epoch.0 x.delegation.current_epoch)) _ _ (refused_in _ _ _ refl)
-      (if_in _ (ltb x.delegation.current_epoch x.slash_event_epoch.0) _ _ (refused_in _ _ _ refl) (if_in _ (wrong_order x.index x.delegation_record.next_slash_event_index x.slash_event_epoch.0 x.delegation.current_epoch) _ _ (refused_in _ _ _ refl) (if_in _ (leb word (x.index + 1)) _ _ (refused_in _ _ _ refl) (accepted_in _ _))))
+  order_in x = search among depth 20
 
   change_in : (w : Words) (x : Slashing) → Among slash_refusals (slash_change P w x)
   unfolding slash_change apply_slash
-  change_in w x =
-      if_in _ (ltb x.slash_event_epoch.0 x.delegation.current_epoch) _ _ (accepted_in _ _)
-      (then_in _ _ _ (slash_seat_in _ P w x.delegation refl refl refl)
-      (λ s. side_in _ w x.delegation _ s (λ total change. slash_in _ refl total change _ _)))
+  change_in w x = search (among, slash_seat_in, side_in, slash_in) depth 20
 
   pub slash_refusals_law : (x : Slashing) → Among slash_refusals (slash_call P E img x)
   unfolding slash_call
-  slash_refusals_law x = image_in _ P E img _ refl (then_in _ _ _ (order_in x) (λ y. change_in _ x))
+  slash_refusals_law x = search (among, image_in, order_in, change_in)
 
   pub fee_refusals_law : (fee : ℕ) → Among fee_refusals (fee_call P E img fee)
   unfolding fee_call
-  fee_refusals_law fee = image_in _ P E img _ refl (if_in _ (ltb M fee) _ _ (refused_in _ _ _ refl) (accepted_in _ _))
+  fee_refusals_law fee = search (among, image_in)
 
   first_in : (a : StakeAccounts) → Among stake_account_refusals (first_account a)
   unfolding first_account
-  first_in a = if_in _ (same_key a.signer a.publisher || same_key a.signer a.reward_program_authority) _ _ (accepted_in _ _) (refused_in _ _ _ refl)
+  first_in a = search among
 
   later_in : (found : Key) (old : List ℕ) (a : StakeAccounts) (account : Option Key) → Among stake_account_refusals (later_account found old a account)
   unfolding later_account
-  later_in found old a (Some key) =
-      if_in _ (not (same_key key found)) _ _ (refused_in _ _ _ refl) (if_in _ (has_publisher old a.publisher) _ _ (refused_in _ _ _ refl) (if_in _ (not (same_key a.signer a.current_owner)) _ _ (refused_in _ _ _ refl) (accepted_in _ _)))
-  later_in found old a None = refused_in _ _ _ refl
+  later_in found old a (Some key) = search among depth 20
+  later_in found old a None = search among
 
   may_in : (found : Key) (old : List ℕ) (a : StakeAccounts) → Among stake_account_refusals (may_change found old a)
   unfolding may_change
-  may_in found old a = if_in _ (same_key found zero_key) _ _ (first_in a) (later_in found old a _)
+  may_in found old a = search (among, first_in, later_in)
 
   new_in : (new : List ℕ) (publisher : Key) (account : Option Key) → Among stake_account_refusals (new_account new publisher account)
   unfolding new_account
-  new_in new publisher (Some key) = if_in _ (has_publisher new publisher) _ _ (refused_in _ _ _ refl) (accepted_in _ _)
-  new_in new publisher None = accepted_in _ _
+  new_in new publisher (Some key) = search among
+  new_in new publisher None = search among
 
   at_seat_in : (w : Words) (old new : List ℕ) (a : StakeAccounts) (s : ℕ) → Among stake_account_refusals (stake_account_at_seat w old new a s)
   unfolding stake_account_at_seat
-  at_seat_in w old new a s = then_in _ _ _ (may_in _ old a) (λ x. map_in _ _ _ (new_in new _ _))
+  at_seat_in w old new a s = search (among, may_in, new_in)
 
   pub stake_account_refusals_law : (old new : List ℕ) (a : StakeAccounts) → Among stake_account_refusals (stake_account_call P E img old new a)
   unfolding stake_account_call
-  stake_account_refusals_law old new a =
-      image_in _ P E img _ refl
-      (if_in _ (not (account_holds a.current_stake_account_positions old && account_holds a.new_stake_account_positions new)) _ _ (refused_in _ _ _ refl) (then_in _ _ _ (index_in _ _ _ _ refl refl) (λ s. at_seat_in _ old new a s)))
+  stake_account_refusals_law old new a = search (among, image_in, index_in, at_seat_in) depth 20
 
 module _ (words : List ℕ) (epoch unlocking : ℕ) where
   by_in : (activation flag start : ℕ) → Among position_state_refusals (state_by activation flag start epoch unlocking)
   unfolding state_by
-  by_in activation flag start =
-      if_in _ (ltb epoch activation) _ _ (accepted_in _ _)
-      (if_in _ (not (eqb flag 1)) _ _ (accepted_in _ _)
-      (if_in _ (leb word (start + unlocking)) _ _ (refused_in _ _ _ refl) (if_in _ (ltb epoch start) _ _ (accepted_in _ _) (if_in _ (ltb epoch (start + unlocking)) _ _ (accepted_in _ _) (accepted_in _ _)))))
+  by_in activation flag start = search among depth 20
 
   pub position_state_refusals_law : Among position_state_refusals (state_call words epoch unlocking)
   unfolding state_call
-  position_state_refusals_law =
-      if_in _ (not (eqb (length words) 9)) _ _ (refused_in _ _ _ refl)
-      (if_in _ (not (position_holds words 0)) _ _ (refused_in _ _ _ refl) (if_in _ (eqb (get_or words 0 0) 0) _ _ (refused_in _ _ _ refl) (by_in _ _ _)))
+  position_state_refusals_law = search (among, by_in) depth 20
 
 -- ---- what a caller makes of the number
 
@@ -289,10 +252,12 @@ module _ (P E : ℕ) (img : List ℕ) where
   pub add-zero : (d : Delegation) (amount : ℕ) → number_of (add_call P E img d amount) ≡ 0 → is_accepted (add_call P E img d amount) ≡ true
   add-zero d amount = zero_accepted add_refusals refl _ (add_refusals_law P E img d amount)
 
-  pub remove_zero : (d : Delegation) (amount : ℕ) (s : PositionState) → number_of (remove_call P E img d amount s) ≡ 0 → is_accepted (remove_call P E img d amount s) ≡ true
+  pub remove_zero : (d : Delegation) (amount : ℕ) (s : PositionState) → number_of (remove_call P E img d amount s) ≡ 0
+      → is_accepted (remove_call P E img d amount s) ≡ true
   remove_zero d amount s = zero_accepted remove_refusals refl _ (remove_refusals_law P E img d amount s)
 
-  pub create_zero : (k : Key) (index : ℕ) → number_of (create_slash_event_call P E img k index) ≡ 0 → is_accepted (create_slash_event_call P E img k index) ≡ true
+  pub create_zero : (k : Key) (index : ℕ) → number_of (create_slash_event_call P E img k index) ≡ 0
+      → is_accepted (create_slash_event_call P E img k index) ≡ true
   create_zero k index = zero_accepted create_refusals refl _ (create_refusals_law P E img k index)
 
   pub slash_zero : (x : Slashing) → number_of (slash_call P E img x) ≡ 0 → is_accepted (slash_call P E img x) ≡ true
@@ -301,10 +266,12 @@ module _ (P E : ℕ) (img : List ℕ) where
   pub fee_zero : (fee : ℕ) → number_of (fee_call P E img fee) ≡ 0 → is_accepted (fee_call P E img fee) ≡ true
   fee_zero fee = zero_accepted fee_refusals refl _ (fee_refusals_law P E img fee)
 
-  pub stake_account_zero : (old new : List ℕ) (a : StakeAccounts) → number_of (stake_account_call P E img old new a) ≡ 0 → is_accepted (stake_account_call P E img old new a) ≡ true
+  pub stake_account_zero : (old new : List ℕ) (a : StakeAccounts) → number_of (stake_account_call P E img old new a) ≡ 0
+      → is_accepted (stake_account_call P E img old new a) ≡ true
   stake_account_zero old new a = zero_accepted stake_account_refusals refl _ (stake_account_refusals_law P E img old new a)
 
-pub position_state_zero : (words : List ℕ) (epoch unlocking : ℕ) → number_of (state_call words epoch unlocking) ≡ 0 → is_accepted (state_call words epoch unlocking) ≡ true
+pub position_state_zero : (words : List ℕ) (epoch unlocking : ℕ) → number_of (state_call words epoch unlocking) ≡ 0
+    → is_accepted (state_call words epoch unlocking) ≡ true
 position_state_zero words epoch unlocking = zero_accepted position_state_refusals refl _ (position_state_refusals_law words epoch unlocking)
 
 -- ---- a remove of stake that is UNLOCKING is always refused, and so is one with a number that is no state's
@@ -330,22 +297,10 @@ unfolding Refused
 map_refused f (refused n) p = refl
 map_refused f (accepted a) p = p
 
-unlocking_side : (total change amount : ℕ) → Refused (remove_of total change amount UNLOCKING)
-unfolding remove_of
-unlocking_side total change amount = if_refused (leb half amount) _ _ (number_refused _ _) (number_refused _ _)
-
 module _ (P E : ℕ) (img : List ℕ) (d : Delegation) (amount : ℕ) where
-  unlocking_at : (w : Words) (s : ℕ) → Refused (side_change w d (λ total change. remove_of total change amount UNLOCKING) s)
-  unfolding side_change
-  unlocking_at w s = map_refused _ _ (unlocking_side _ _ amount)
-
-  unlocking_never : (w : Words) → Refused (remove_delegation P w d amount UNLOCKING)
-  unfolding remove_delegation
-  unlocking_never w = then_refused (delegation_seat P w d) _ (λ s. unlocking_at w s)
-
   unlocking_call : Refused (remove_call P E img d amount UNLOCKING)
-  unfolding remove_call checked_image_then
-  unlocking_call = if_refused (checked_image P E img) _ _ (unlocking_never (read P E img)) (number_refused Change invalid_image)
+  unfolding remove_call checked_image_then remove_delegation side_change remove_of
+  unlocking_call = search (if_refused, then_refused, map_refused, number_refused) depth 20
 
   pub unlocking_refused : is_accepted (remove_call P E img d amount UNLOCKING) ≡ false
   unfolding Refused

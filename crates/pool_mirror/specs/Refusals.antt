@@ -19,8 +19,8 @@ fresh_refusals = invalid_image ∷ invalid_epoch ∷ []
 -- of an advance and of a forecast
 abbrev pub advance_refusals : List ℕ
 advance_refusals =
-    invalid_image ∷ invalid_epoch ∷ invalid_publisher_caps ∷ invalid_y ∷ unverified_publisher_caps ∷ pool_data_already_up_to_date ∷ outdated_publisher_caps ∷ does_not_fit
-    ∷ claimable_over_custody ∷ []
+    invalid_image ∷ invalid_epoch ∷ invalid_publisher_caps ∷ invalid_y ∷ unverified_publisher_caps ∷ pool_data_already_up_to_date ∷ outdated_publisher_caps
+    ∷ does_not_fit ∷ claimable_over_custody ∷ []
 
 abbrev pub payment_refusals : List ℕ
 payment_refusals =
@@ -38,8 +38,8 @@ create_refusals = invalid_image ∷ invalid_publisher ∷ publisher_not_found �
 
 abbrev pub slash_refusals : List ℕ
 slash_refusals =
-    invalid_image ∷ outdated_delegator_accounting ∷ slash_event_ahead_of_now ∷ wrong_slash_event_order ∷ does_not_fit ∷ outdated_publisher_accounting ∷ invalid_publisher
-    ∷ publisher_not_found ∷ []
+    invalid_image ∷ outdated_delegator_accounting ∷ slash_event_ahead_of_now ∷ wrong_slash_event_order ∷ does_not_fit ∷ outdated_publisher_accounting
+    ∷ invalid_publisher ∷ publisher_not_found ∷ []
 
 abbrev pub fee_refusals : List ℕ
 fee_refusals = invalid_image ∷ invalid_delegation_fee ∷ []
@@ -47,7 +47,8 @@ fee_refusals = invalid_image ∷ invalid_delegation_fee ∷ []
 abbrev pub stake_account_refusals : List ℕ
 stake_account_refusals =
     invalid_image ∷ invalid_positions ∷ invalid_publisher ∷ publisher_not_found ∷ publisher_or_reward_authority_needs_to_sign ∷ account_not_enough_keys
-    ∷ publisher_stake_account_mismatch ∷ current_stake_account_should_be_undelegated ∷ stake_account_owner_needs_to_sign ∷ new_stake_account_should_be_undelegated ∷ []
+    ∷ publisher_stake_account_mismatch ∷ current_stake_account_should_be_undelegated ∷ stake_account_owner_needs_to_sign
+    ∷ new_stake_account_should_be_undelegated ∷ []
 
 abbrev pub position_state_refusals : List ℕ
 position_state_refusals = invalid_positions ∷ does_not_fit ∷ []
