@@ -6,7 +6,7 @@ use Prim.Native.Nat.{ℕ, ◌+◌, ◌-◌, ◌*◌, ◌/◌, ◌≤◌, ◌<◌
 use native.Mathlib.Nat.{add-zero, zero-mul, mul-zero, zero-div, mul-le-mul_right, le-div_iff_mul-le, div-mul-le_self}
 use native.Mathlib.Omega.{arith}
 use lib.Dec.{eqb, leb, ltb}
-use borrow.Author.Tests.{eq-eqb, leb-true, ltb-true, ltb-false, eqb-true, eqb-false}
+use borrow.Author.Tests.{le-ltb, eq-eqb, leb-true, ltb-true, ltb-false, eqb-true, eqb-false}
 use Rattle.std.specs.Prelude.{if◌then◌else◌}
 use Rattle.types.specs.Base.{M, word, Outcome, refused, accepted}
 use Rattle.types.specs.Refusals.{does_not_fit}
@@ -121,3 +121,19 @@ unfolding total_of
 total_split a b rate =
     (le-div_iff_mul-le {k = M} {x = a * rate / M + b * rate / M} {y = (a + b) * rate} (omega arith)).1
     (omega (arith, div-mul-le_self (a * rate) M, div-mul-le_self (b * rate) M))
+
+-- the self side keeps all, the other side gives the publisher its part
+module _ (total fee : ℕ) where
+  pub shared_self : shared total fee true ≡ accepted (record { delegator = total; publisher = 0 })
+  unfolding shared
+  shared_self = refl
+
+  pub shared_parts : total * fee / M ≤ total → shared total fee false ≡ accepted (record { delegator = total - total * fee / M; publisher = total * fee / M })
+  unfolding shared
+  shared_parts h = rw (le-ltb total (total * fee / M) h)
+
+-- an event's reward on the self side is by the self side's ratio
+pub self_side_law : (e : Event) (amount : ℕ)
+    → event_reward e amount true ≡ reward_of amount e.y.0 e.event_data.self_reward_ratio.0 e.event_data.delegation_fee.0 true
+unfolding event_reward
+self_side_law e amount = refl
