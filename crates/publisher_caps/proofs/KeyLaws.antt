@@ -283,3 +283,9 @@ module _ (m : List ℕ) (at : ℕ) where
 
 pub swapped_word : (x : ℕ) → swap_bytes w64 x ≡ swapped x
 swapped_word x = big_sum (to_le_bytes w64 x) ∙ swap_sum x
+
+-- four bytes, the first the highest
+pub four_bytes : (m : List ℕ) (at : ℕ)
+    → get_or m at 0 * 2 ^ 24 + get_or m (at + 1) 0 * 2 ^ 16 + get_or m (at + 2) 0 * 2 ^ 8 + get_or m (at + 3) 0 ≡ big_endian m at 4
+unfolding big_endian
+four_bytes m at = omega (arith, ap (λ (n : ℕ). get_or m n 0) (add-zero at))
