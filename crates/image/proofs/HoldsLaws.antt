@@ -1,11 +1,17 @@
 -- A list that holds given words by name: what loops and stores keep. Assumes nothing.
 use Prim.Native.Nat.{ℕ, ◌-◌}
 use mathlib.Core.Path.{◌≡◌, refl, ap, sym, ◌∙◌}
+use mathlib.Core.Bool.{cond}
 use mathlib.Core.List.{List}
-use lib.ListN.{length}
-use Rattle.image.specs.Layout.{last_updated_epoch, claimable_rewards, num_events, Field, head, seat, slot, share, Words, size, addr, InRange, read, image}
+use native.Mathlib.Omega.{arith}
+use native.Mathlib.Decide.{ℕ_discrete}
+use lib.Dec.{eqb}
+use lib.ListN.{length, set, length-set}
+use lib.Seq.{get_or-set_same, get_or-set_other}
+use borrow.Author.Tests.{eq-eqb, ne_eqb}
+use Rattle.image.specs.Layout.{last_updated_epoch, claimable_rewards, num_events, Field, head, seat, slot, share, Words, size, addr, InRange, field_of, read, image}
 use Rattle.image.specs.Seats.{Cleared, with_head, fresh_words}
-use Rattle.image.proofs.LayoutLaws.{addr_lt, read_image, length_image}
+use Rattle.image.proofs.LayoutLaws.{field_of_addr, addr_lt, read_image, length_image}
 use Rattle.image.proofs.ImageLaws.{image_ext}
 
 pub record Holds (P E : ℕ) (w : Words) (img : List ℕ) : Type 0 where
@@ -50,3 +56,37 @@ fresh_image_law P E old l given long z = same_image P E (with_head (read P E l) 
     words (seat s x) r = zero_at (seat s x) r
     words (slot t x) r = zero_at (slot t x) r
     words (share t s x) r = zero_at (share t s x) r
+
+-- ---- a store
+
+-- one word changed
+unfoldable pub put : ℕ → ℕ → Words → Field → ℕ → Words
+put P E w f v g = cond (eqb (addr P E g) (addr P E f)) v (w g)
+
+module _ (P E : ℕ) where
+  put_here : (w : Words) (f g : Field) (v : ℕ) → addr P E g ≡ addr P E f → put P E w f v g ≡ v
+  unfolding put
+  put_here w f g v e = rw (eq-eqb (addr P E g) (addr P E f) e)
+
+  put_else : (w : Words) (f g : Field) (v : ℕ) → (addr P E g ≡ addr P E f → ⊥) → put P E w f v g ≡ w g
+  unfolding put
+  put_else w f g v n = rw (ne_eqb (addr P E g) (addr P E f) n)
+
+  -- a store to the place of a word
+  pub holds_set : (w : Words) (img : List ℕ) (f : Field) (v at : ℕ) → Holds P E w img → InRange P E f → at ≡ addr P E f → Holds P E (put P E w f v) (set img at v)
+  unfolding read
+  holds_set w img f v at h r q = record { long = length-set img at v ∙ h.long; has = λ g rg. go g rg (ℕ_discrete (addr P E g) (addr P E f)) }
+    where
+      go : (g : Field) → InRange P E g → Dec (addr P E g ≡ addr P E f) → read P E (set img at v) g ≡ put P E w f v g
+      go g rg (yes e) =
+          let lt = addr_lt P E f r in
+          let l = h.long in
+          rw (q, e) (get_or-set_same img (addr P E f) v 0 (omega arith)) ∙ sym (put_here w f g v e)
+      go g rg (no ne) = rw q (get_or-set_other img (addr P E f) (addr P E g) v 0 ne) ∙ h.has g rg ∙ sym (put_else w f g v ne)
+
+  -- which changes the word and, as words with different names do not share a place, no other
+  pub put_at : (w : Words) (f : Field) (v : ℕ) → put P E w f v f ≡ v
+  put_at w f v = put_here w f f v refl
+
+  pub put_apart : (w : Words) (f g : Field) (v : ℕ) → InRange P E f → InRange P E g → (g ≡ f → ⊥) → put P E w f v g ≡ w g
+  put_apart w f g v rf rg ne = put_else w f g v (λ e. ne (sym (field_of_addr P E g rg) ∙ ap (field_of P E) e ∙ field_of_addr P E f rf))

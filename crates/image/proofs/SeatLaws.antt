@@ -13,7 +13,7 @@ use Rattle.types.proofs.Below.{first_at, first_none, first_le}
 use Rattle.positions.specs.declared.Key.{Key}
 use Rattle.positions.specs.Key.{same_key}
 use Rattle.image.specs.Layout.{num_events, Field, head, Words, addr, read}
-use Rattle.image.specs.Seats.{sized_image, checked_image, Sized, zero_key, publisher_at, empty_seat, seats_of, first_seat, publisher_index_of}
+use Rattle.image.specs.Seats.{in_range, sized_image, checked_image, Sized, zero_key, publisher_at, empty_seat, seats_of, first_seat, publisher_index_of}
 
 -- ---- refusal 1
 
@@ -64,3 +64,7 @@ module _ (P : ℕ) (w : Words) where
     pub index_lt : (s : ℕ) → publisher_index_of P w k ≡ accepted s → s < P
     unfolding publisher_index_of
     index_lt s e = grind (arith, nat_tests)
+
+-- P is 1 to 1,024 and E 1 to 52
+pub in_range_law : (P E : ℕ) → in_range P E ≡ true → (1 ≤ P) × (P ≤ 1024) × (1 ≤ E) × (E ≤ 52)
+in_range_law P E h = grind (arith, nat_tests)
