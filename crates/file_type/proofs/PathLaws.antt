@@ -1,5 +1,5 @@
 -- Laws of a path's bytes, of which those from place i on are looked at. Assumes nothing.
-use Rattle.std.proofs.Common.{◌≡◌, ℕ, ◌+◌, ◌<◌, ◌≤◌, Bool, true, false, not, ◌&&◌, List, eqb, ltb, length, drop, get_or, refl, add-one, drop-cons, eq-eqb, ne_eqb}
+use Rattle.std.proofs.Common.{◌≡◌, ℕ, ◌+◌, ◌<◌, ◌≤◌, Bool, true, false, not, ◌&&◌, List, eqb, ltb, length, drop, get_or, refl, add-one, drop-cons, ne_eqb}
 use Rattle.std.specs.List.{list_all}
 use Rattle.std.proofs.Math.ListN.{drop_of_length-le}
 use Rattle.file_type.specs.Path.{is_path}
