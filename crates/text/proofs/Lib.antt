@@ -3,3 +3,4 @@ pub mod HexLaws
 pub mod KeyLaws
 pub mod LaidLaws
 pub mod WordsLaws
+pub mod DecimalLaws

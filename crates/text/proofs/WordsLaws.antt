@@ -1,20 +1,22 @@
 -- Laws of a list's words: one for each way out of a reader. Assumes nothing.
-use Rattle.std.proofs.Common.{◌≡◌, ℕ, ◌+◌, ◌-◌, ◌<◌, ◌≤◌, List, [], ◌∷◌, ◌++◌, length, take, drop, get_or, ap, sym, ◌∙◌, add-one, drop-cons, length-drop, length-take, length-append, append-nil, append_assoc, min, refl, arith, Bool, true, false, cond, ltb, eqb, None, Some, Result, Ok, Err}
+use Rattle.std.proofs.Common.{◌≡◌, ℕ, ◌+◌, ◌-◌, ◌<◌, ◌≤◌, List, [], ◌∷◌, ◌++◌, length, take, drop, get_or, set, lt-ltb, ap, sym, ◌∙◌, add-one, drop-cons, length-drop, length-take, length-append, append-nil, append_assoc, min, refl, arith, Bool, true, false, cond, ltb, eqb, None, Some, Result, Ok, Err}
 use Rattle.std.proofs.lemmas.Grind.{common_steps}
 use Rattle.std.proofs.lemmas.List.{take_all, take-append-drop}
 use Rattle.std.proofs.Math.ListN.{drop_of_length-le}
 use Rattle.std.proofs.Math.Seq.{take-length, take-append-add, drop-append-add}
 use borrow.Rule.Slice.PartMut.{put_mid}
 use Rattle.text.specs.declared.items.WordError.{WordError}
+use Rattle.text.specs.declared.items.WordError.TheVariants.{NotWord}
 use Rattle.std.specs.Str.{bytes_eq}
 use Rattle.text.specs.Items.{items}
 use Rattle.std.proofs.lemmas.List.Splits.{length-slice_split}
 use Rattle.text.specs.declared.NumberError.{NumberError}
+use Rattle.text.specs.declared.NumberError.TheVariants.{NoDigits}
 use Rattle.text.specs.Decimal.{number_of}
 use Rattle.text.specs.Hex.{all_hex}
 use Rattle.text.specs.Key.{key_of}
 use Rattle.text.proofs.LaidLaws.{laid_more, length-laid, laid_nowhere}
-use Rattle.text.specs.Words.{dash, comma, mark, key_words, number_words, item_of, behind, before, words_of, numbers, laid, list_of}
+use Rattle.text.specs.Words.{dash, comma, mark, key_words, number_words, item_of, behind, before, words_of, numbers, laid, list_of, listed}
 
 -- a full room
 pub words_full : (xs : List (List ℕ)) (room k : ℕ) → room ≤ k → words_of xs room k ≡ Ok room
@@ -167,3 +169,29 @@ list_within s room n e = go (bytes_eq s dash) e
     go : (t : Bool) → cond t (Ok 0) (words_of (items comma s) room 0) ≡ Ok n → n ≤ room
     go true q = grind arith
     go false q = words_fit (items comma s) room 0 n q
+
+-- an item x is read as i, and put at the start of out
+module _ (x out : List ℕ) (fits : 0 < length out) (i : Result (List ℕ) WordError) (is : i ≡ item_of x) where
+  abbrev Put : Result ℕ WordError → List ℕ → Type 0
+  Put a new = (a ≡ words_of (x ∷ []) (length out) 0) × (new ≡ laid (numbers (x ∷ [])) out)
+
+  pub put_none : i ≡ number_words (Err NoDigits) → Put (Err NotWord) out
+  unfolding words_of laid numbers
+  put_none e = (rw (lt-ltb _ _ fits, ← is, e), rw (← is, e))
+
+  pub put_value_law : (n : ℕ) → i ≡ number_words (Ok n) → Put (Ok 1) (set out 0 n)
+  unfolding words_of laid numbers
+  put_value_law n e = (let m : min 1 (length out) ≡ 1 = omega arith in rw (lt-ltb _ _ fits, ← is, e, m), rw (← is, e) (first out fits))
+    where
+      first : (l : List ℕ) → 0 < length l → set l 0 n ≡ laid (n ∷ []) l
+      first [] h = absurd (omega arith)
+      first (o ∷ l) h = refl
+
+  pub put_key_law : (ws : List ℕ) (n : ℕ) (new : List ℕ) → i ≡ key_words (Some ws) → n ≡ min (length ws) (length out) → new ≡ laid ws out → Put (Ok n) new
+  unfolding words_of numbers
+  put_key_law ws n new e m l = (rw (lt-ltb _ _ fits, ← is, e, m) (let z : length ws ≡ 0 + length ws = omega arith in ap (λ k. Ok (min k (length out))) z), rw (← is, e, append-nil ws) l)
+
+-- `-` is the list without words
+pub list_dash : (s out : List ℕ) (d : Bool) → d ≡ bytes_eq s dash → (room : ℕ) → d ≡ true → (Ok 0 ≡ list_of s room) × (out ≡ listed s out)
+unfolding list_of listed
+list_dash s out d is room t = let e : bytes_eq s dash ≡ true = sym is ∙ t in (rw e, rw e)
