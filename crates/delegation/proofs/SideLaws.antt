@@ -63,6 +63,7 @@ module _ (total change : ℕ) where
           rw is (simp (lt-ltb total half a, q, le-leb (word - change) total (omega arith)))
 
 -- an amount below 2^63 is removed by the state's case
-pub remove_in_law : (total change amount : ℕ) (state : PositionState) → amount < half → remove_in state total change amount ≡ remove_of total change amount state
+pub remove_in_law : (total change amount : ℕ) (state : PositionState) → amount < half
+    → remove_in state total change amount ≡ remove_of total change amount state
 unfolding remove_of
 remove_in_law total change amount state h = rw (lt-leb half amount h)
