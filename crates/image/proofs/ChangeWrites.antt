@@ -110,5 +110,6 @@ refused_answers n = refl
 
 -- ---- whose stake it is
 
-pub self_read : (P E : ℕ) (img : List ℕ) (s : ℕ) (b : Bool) (r : DelegationState) → b ≡ true → r ≡ side_at (read P E img) s self → r ≡ side_at (read P E img) s (whose b)
+pub self_read : (P E : ℕ) (img : List ℕ) (s : ℕ) (b : Bool) (r : DelegationState) → b ≡ true
+    → r ≡ side_at (read P E img) s self → r ≡ side_at (read P E img) s (whose b)
 self_read P E img s b r e q = rw e q

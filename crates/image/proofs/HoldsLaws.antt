@@ -64,16 +64,17 @@ unfoldable pub put : ℕ → ℕ → Words → Field → ℕ → Words
 put P E w f v g = cond (eqb (addr P E g) (addr P E f)) v (w g)
 
 module _ (P E : ℕ) where
-  put_here : (w : Words) (f g : Field) (v : ℕ) → addr P E g ≡ addr P E f → put P E w f v g ≡ v
+  pub put_here : (w : Words) (f g : Field) (v : ℕ) → addr P E g ≡ addr P E f → put P E w f v g ≡ v
   unfolding put
   put_here w f g v e = rw (eq-eqb (addr P E g) (addr P E f) e)
 
-  put_else : (w : Words) (f g : Field) (v : ℕ) → (addr P E g ≡ addr P E f → ⊥) → put P E w f v g ≡ w g
+  pub put_else : (w : Words) (f g : Field) (v : ℕ) → (addr P E g ≡ addr P E f → ⊥) → put P E w f v g ≡ w g
   unfolding put
   put_else w f g v n = rw (ne_eqb (addr P E g) (addr P E f) n)
 
   -- a store to the place of a word
-  pub holds_set : (w : Words) (img : List ℕ) (f : Field) (v at : ℕ) → Holds P E w img → InRange P E f → at ≡ addr P E f → Holds P E (put P E w f v) (set img at v)
+  pub holds_set : (w : Words) (img : List ℕ) (f : Field) (v at : ℕ) → Holds P E w img → InRange P E f → at ≡ addr P E f
+      → Holds P E (put P E w f v) (set img at v)
   unfolding read
   holds_set w img f v at h r q = record { long = length-set img at v ∙ h.long; has = λ g rg. go g rg (ℕ_discrete (addr P E g) (addr P E f)) }
     where
