@@ -189,7 +189,9 @@ module _ (x out : List ℕ) (fits : 0 < length out) (i : Result (List ℕ) WordE
 
   pub put_key_law : (ws : List ℕ) (n : ℕ) (new : List ℕ) → i ≡ key_words (Some ws) → n ≡ min (length ws) (length out) → new ≡ laid ws out → Put (Ok n) new
   unfolding words_of numbers
-  put_key_law ws n new e m l = (rw (lt-ltb _ _ fits, ← is, e, m) (let z : length ws ≡ 0 + length ws = omega arith in ap (λ k. Ok (min k (length out))) z), rw (← is, e, append-nil ws) l)
+  put_key_law ws n new e m l =
+      let z : length ws ≡ 0 + length ws = omega arith in
+      (rw (lt-ltb _ _ fits, ← is, e, m) (ap (λ k. Ok (min k (length out))) z), rw (← is, e, append-nil ws) l)
 
 -- `-` is the list without words
 pub list_dash : (s out : List ℕ) (d : Bool) → d ≡ bytes_eq s dash → (room : ℕ) → d ≡ true → (Ok 0 ≡ list_of s room) × (out ≡ listed s out)
