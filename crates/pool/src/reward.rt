@@ -57,6 +57,7 @@ fn slot_reward(
 
 // The rewards of the amounts in the ring slots, newest first, added up, on the publisher's own side or
 // the other. Both sums together stay a word. There is no heap: the amounts stand in an array with the ring's room.
+#[tactic(auto, using(event_walk::proofs::WalkLaws::before_lt, event_walk::proofs::WalkLaws::slot_back, crate::proofs::RewardLaws::slot_earns, crate::proofs::RewardLaws::sum_paid, crate::proofs::RewardLaws::sum_13_sums))]
 fn reward_sum(
     pool: PoolData<'_>,
     s: usize,
@@ -88,6 +89,7 @@ fn reward_sum(
 }
 
 // What the gathered amounts have earned with the publisher at seat s.
+#[tactic(auto, unfolding(crate::specs::Reward::reward_of))]
 pub fn calculate_reward(
     pool: PoolData<'_>,
     s: usize,

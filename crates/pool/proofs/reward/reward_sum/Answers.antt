@@ -6,17 +6,13 @@ use Rattle.std.proofs.lemmas.Result.{err_from_is_err_and}
 use Rattle.image.specs.Pool.{words_of}
 use Rattle.event_walk.proofs.WalkLaws.{slot_from, before_lt, slot_back, slot_kept}
 use Rattle.event_walk.specs.Walk.{walk_length}
-use Rattle.pool.proofs.RewardLaws.{slot_earns, slot_refused, summed_none, summed_more, sum_paid, sum_13_slot, sum_13_sums}
-use Rattle.pool.proofs.reward.reward_sum.Goals.{then-room-delegator-via-then-room-delegator, then-room-delegator-via-else-room-delegator+then-room-delegator-2}
+use Rattle.pool.proofs.RewardLaws.{slot_earns, slot_refused, summed_none, summed_more, sum_13_slot}
 use Rattle.pool.proofs.reward.reward_sum.Goals as goal
 
 pub loop-k-init : goal.loop-k-init
 unfolding slot_from
 loop-k-init c =
     (mod-lt _ c.args.pool.sized.e_low, ap (λ (n : ℕ). n % c.args.pool.e) (c.num_events.ensures ∙ sym (sub-zero _)), summed_none _)
-
-pub slot_reward-requires : goal.slot_reward-requires
-slot_reward-requires c = (before_lt _ _ _ c.loop-k.invariant.0 c.slot_before-slot.ensures, c.requires)
 
 -- in what follows b: the turn is within the walk; i: the slot that it comes to; r: what the amount there earns
 pub returns-in_err-reward : goal.returns-in_err-reward
@@ -26,18 +22,6 @@ returns-in_err-reward c =
     let i = slot_back _ _ _ _ _ c.args.pool.sized.e_low b c.loop-k.invariant.1 c.slot_before-slot.ensures in
     let r = slot_earns _ _ _ _ _ _ _ _ i c.in_err-reward.ensures in
     rw (p.1, p.2, slot_refused _ _ _ _ _ _ _ r) (sum_13_slot _ _ _ _ b r)
-
-pub returns-then-room-delegator : goal.returns-then-room-delegator
-returns-then-room-delegator c =
-    let b : c.loop-k.k < walk_length c.args.pool.e (words_of c.args.pool) = omega (arith, c.walk_length-k-end.ensures.steps) in
-    let i = slot_back _ _ _ _ _ c.args.pool.sized.e_low b c.loop-k.invariant.1 c.slot_before-slot.ensures in
-    let r = slot_earns _ _ _ _ _ _ _ _ i c.in_ok-reward.ensures in
-    let f = c.loop-k.invariant.2.fits in
-    elim c.then-room-delegator.branch [
-      | then-room-delegator-via-then-room-delegator w ↦ sum_13_sums _ _ _ _ _ _ _ b c.loop-k.invariant.2 r (omega (arith, w.if-room-delegator.true))
-      | then-room-delegator-via-else-room-delegator+then-room-delegator-2 w ↦
-          sum_13_sums _ _ _ _ _ _ _ b c.loop-k.invariant.2 r (omega (arith, w.if-room-delegator.false, w.if-room-delegator-2.true))
-    ]
 
 pub loop-k-preserved : goal.loop-k-preserved
 loop-k-preserved c =
@@ -49,6 +33,3 @@ loop-k-preserved c =
       slot_kept _ _ _ _ i,
       summed_more _ _ _ _ _ _ c.loop-k.invariant.2 r (omega (arith, c.if-room-delegator.false, c.if-room-delegator-2.false)),
     )
-
-pub returns : goal.returns
-returns c = sum_paid _ _ _ _ _ (omega (arith, c.walk_length-k-end.ensures.steps)) c.loop-k.invariant.2
