@@ -58,6 +58,7 @@ pub fn counted(item: &[u8], stop: Stop) -> &[u8]
 }
 
 // Standard input, which has no equality, and what was read of it: from `item` to `at` the item that was read last, from `at` to `end` what is not used yet.
+// An array with three places in it, since these two and the room behind them are parts of one buffer.
 #[derive(Drop)]
 pub struct Input {
     stdin: Stdin,
