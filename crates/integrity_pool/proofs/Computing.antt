@@ -31,7 +31,8 @@ unfoldable pub put : ℕ → ℕ → Words → Field → ℕ → Words
 put P E w f v g = cond (eqb (addr P E g) (addr P E f)) v (w g)
 
 unfoldable pub words : Unit {0}
-unfolding sum_below all_below any_below count_below first_below same_key put read tabulate image field_of event_field side_field if_equal if_below sized_image checked_image empty_seat seats_of first_seat publisher_index_of
+unfolding sum_below all_below any_below count_below first_below same_key put read tabulate image field_of event_field side_field if_equal if_below sized_image
+    checked_image empty_seat seats_of first_seat publisher_index_of
 words = tt
 
 unfoldable pub positions : Unit {0}
@@ -41,21 +42,25 @@ positions = tt
 -- ---- fresh, advance, forecast
 
 unfoldable pub caps : Unit {0}
-unfolding big_endian little_endian swapped pair time_of rows_of key_word ascends none_zero message_holds lookup cap_of key_number seat_cap matched_row matched_rows key_after
+unfolding big_endian little_endian swapped pair time_of rows_of key_word ascends none_zero message_holds lookup cap_of key_number seat_cap matched_row
+    matched_rows key_after
 caps = tt
 
 unfoldable pub amounts : Unit {0}
-unfolding self_eligible other_eligible ratio_of eligible_at ratio_at eligible_in ratio_in eligible_sum forecast_sum rolled roll_fits seat_rolls rewards_of lowered_by adjust_of
+unfolding self_eligible other_eligible ratio_of eligible_at ratio_at eligible_in ratio_in eligible_sum forecast_sum rolled roll_fits seat_rolls rewards_of
+    lowered_by adjust_of
 amounts = tt
 
 unfoldable pub advances : Unit {0}
-unfolding words caps amounts event_written events_after adjustment_of answer_with advance_of forecast_of checked_then fresh_call fresh_image advance_call advance_image forecast_call
+unfolding words caps amounts event_written events_after adjustment_of answer_with advance_of forecast_of checked_then fresh_call fresh_image advance_call
+    advance_image forecast_call
 advances = tt
 
 -- ---- payment
 
 unfoldable pub rewards : Unit {0}
-unfolding walk_length walk_slot walk_epoch walk_meets walk_reads drawn_in walk_fits drawn_at slot_amount gather_fits reads_of rate_of total_of shared reward_of event_reward slot_reward reward_sum calculate_reward
+unfolding walk_length walk_slot walk_epoch walk_meets walk_reads drawn_in walk_fits drawn_at slot_amount gather_fits reads_of rate_of total_of shared
+    reward_of event_reward slot_reward reward_sum calculate_reward
 rewards = tt
 
 unfoldable pub payments : Unit {0}
@@ -65,7 +70,8 @@ payments = tt
 -- ---- item 9's calls besides fresh
 
 unfoldable pub sides : Unit {0}
-unfolding raised_of lowered_of add_of remove_of slash_of self_side up_to_date delegation_seat slash_seat account_side side_change add_delegation remove_delegation apply_slash
+unfolding raised_of lowered_of add_of remove_of slash_of self_side up_to_date delegation_seat slash_seat account_side side_change add_delegation
+    remove_delegation apply_slash
 sides = tt
 
 unfoldable pub slashes : Unit {0}
@@ -77,5 +83,6 @@ unfolding account_holds first_account later_account may_change new_account stake
 accounts = tt
 
 unfoldable pub changes : Unit {0}
-unfolding words positions sides slashes accounts with_side with_slash_events with_stake_account with_fees changed_image checked_image_then add_call remove_call fee_call
+unfolding words positions sides slashes accounts with_side with_slash_events with_stake_account with_fees changed_image checked_image_then add_call
+    remove_call fee_call
 changes = tt

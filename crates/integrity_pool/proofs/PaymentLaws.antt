@@ -1,49 +1,28 @@
 -- What a payment takes is covered, amounts that were gathered are paid as their positions are, and what it writes. Assumes nothing.
-use mathlib.Core.Path.{◌≡◌, refl, sym}
-use mathlib.Core.Bool.{not}
+use mathlib.Core.Path.{◌≡◌, refl}
 use mathlib.Core.List.{List}
 use Prim.Native.Nat.{ℕ, ◌+◌, ◌-◌, ◌≤◌}
-use lib.Dec.{ltb, eqb}
-use borrow.Author.Tests.{ltb-false}
+use Rattle.std.proofs.Common.{arith}
+use Rattle.std.proofs.lemmas.Grind.{common_steps}
 use Rattle.types.specs.Base.{Outcome, refused, accepted, and_then}
-use Rattle.types.proofs.OutcomeLaws.{test_passed, then_accepts}
-use Rattle.positions.specs.declared.Key.{Key}
 use Rattle.std.specs.Prelude.{Option}
 use Rattle.image.specs.Layout.{last_updated_epoch, claimable_rewards, num_events, Field, head, seat, slot, share, Words, InRange, image}
-use Rattle.image.specs.Seats.{stake_account_at, publisher_index_of, with_head}
+use Rattle.image.specs.Seats.{publisher_index_of, with_head}
 use Rattle.image.proofs.HoldsLaws.{same_image}
 use Rattle.event_walk.specs.declared.EventAmounts.{EventAmounts}
 use Rattle.event_amounts.specs.Gathered.{GatheredOf}
-use Rattle.pool.specs.Reward.{Earned, reward_of}
 use Rattle.pool.proofs.RewardLaws.{reward_gathered}
 use Rattle.integrity_pool.specs.declared.payment.Claim.{Claim}
 use Rattle.image.specs.Changes.{self_side}
-use Rattle.integrity_pool.specs.Payment.{custody_fall, Payment, payment_with, pay_out, payment_at, payment_of, gathered_payment_at, gathered_payment, paid_words}
+use Rattle.integrity_pool.specs.Payment.{Payment, pay_out, payment_at, payment_of, gathered_payment_at, gathered_payment, paid_words}
 
 -- ---- what is paid
-
--- claimable covers what is paid out
-out_covered : (claimable : ℕ) (stake_account : Key) (c : Claim) (r : Earned) (a : Payment) → pay_out claimable stake_account c r ≡ accepted a
-    → a.delegator + a.publisher ≤ claimable
-unfolding pay_out
-out_covered claimable stake_account c r a e =
-    let t = test_passed (ltb claimable (r.delegator + r.publisher)) _ _ a e in
-    let falling = custody_fall stake_account c.publisher_stake_account_positions c.publisher_stake_account_custody r.delegator
-    (r.delegator + r.publisher) in
-    let f = then_accepts (λ fall. accepted (payment_with c r fall)) falling a t.1 in
-    let q : payment_with c r f.0 ≡ a = cc f.1.1 in
-    rw (sym q) (ltb-false _ _ t.0)
 
 module _ (P E : ℕ) (w : Words) (g : Option EventAmounts) (c : Claim) where
   -- claimable covers what is paid
   pub gathered_covered : (a : Payment) → gathered_payment P E w g c ≡ accepted a → a.delegator + a.publisher ≤ w (head claimable_rewards)
-  unfolding gathered_payment gathered_payment_at
-  gathered_covered a e =
-      let s = then_accepts (gathered_payment_at E w g c) (publisher_index_of P w c.publisher) a e in
-      let t = test_passed (not (eqb (w (head last_updated_epoch)) c.current_epoch)) _ _ a s.1.1 in
-      let earning = reward_of E w s.0 g (self_side w s.0 c.stake_account_positions) in
-      let r = then_accepts (pay_out (w (head claimable_rewards)) (stake_account_at w s.0) c) earning a t.1 in
-      out_covered (w (head claimable_rewards)) (stake_account_at w s.0) c r.0 a r.1.1
+  unfolding gathered_payment gathered_payment_at pay_out
+  gathered_covered a e = grind (arith, common_steps)
 
   -- amounts that an account's positions gathered are paid as the positions are
   pub gathered_pays : (words : List ℕ)

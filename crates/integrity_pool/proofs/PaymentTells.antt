@@ -1,21 +1,20 @@
 -- What an accepted payment tells, and which words of the image a payment writes. Assumes nothing.
 use mathlib.Core.Path.{◌≡◌, refl, sym, ap, ◌∙◌}
 use mathlib.Core.Logic.{◌≢◌}
-use mathlib.Core.Bool.{not}
+use mathlib.Core.Bool.{true, not}
 use mathlib.Core.List.{List}
 use Prim.Native.Nat.{ℕ, ◌+◌, ◌≤◌}
 use native.Mathlib.Omega.{arith}
 use lib.Dec.{ltb, eqb}
 use lib.ListN.{length}
 use borrow.Author.Tests.{ltb-false, eqb-true, not-false}
+use Rattle.std.proofs.lemmas.Grind.{common_steps}
 use Rattle.types.specs.Base.{Outcome, refused, accepted, after}
 use Rattle.types.proofs.OutcomeLaws.{test_passed, then_accepts}
 use Rattle.positions.specs.declared.Key.{Key}
 use Rattle.std.specs.Prelude.{Option, Some, None}
-use Rattle.positions.specs.Key.{same_key}
-use Rattle.positions.specs.Positions.{positions_hold}
 use Rattle.image.specs.Layout.{last_updated_epoch, claimable_rewards, num_events, Field, head, seat, slot, share, Words, InRange, read, image}
-use Rattle.image.specs.Seats.{checked_image, zero_key, stake_account_at, publisher_index_of}
+use Rattle.image.specs.Seats.{checked_image, stake_account_at, publisher_index_of}
 use Rattle.image.proofs.SeatLaws.{checked_says}
 use Rattle.image.proofs.LayoutLaws.{read_image, length_image}
 use Rattle.pool.specs.Reward.{Earned, calculate_reward}
@@ -76,18 +75,11 @@ payment_covered P E w words c a e =
     rw (sym t.answer) t.covered
 
 -- by how much custody falls: at most by both parts
-fall_le : (stake_account : Key) (account : Option Key) (custody delegator both fall : ℕ) → custody_fall stake_account account custody delegator both ≡ accepted fall
-    → delegator ≤ both → fall ≤ both
+fall_le : (stake_account : Key) (account : Option Key) (custody delegator both fall : ℕ)
+    → custody_fall stake_account account custody delegator both ≡ accepted fall → delegator ≤ both → fall ≤ both
 unfolding custody_fall
-fall_le stake_account (Some key) custody delegator both fall e l =
-    let t0 = test_passed (not (same_key stake_account key)) _ _ fall e in
-    let t1 = test_passed (eqb custody 0) _ _ fall t0.1 in
-    let q : both ≡ fall = cc t1.1 in
-    omega arith
-fall_le stake_account None custody delegator both fall e l =
-    let t0 = test_passed (not (same_key stake_account zero_key)) _ _ fall e in
-    let q : delegator ≡ fall = cc t0.1 in
-    omega arith
+fall_le stake_account (Some key) custody delegator both fall e l = grind (arith, common_steps)
+fall_le stake_account None custody delegator both fall e l = grind (arith, common_steps)
 
 -- ---- what is written
 
@@ -106,16 +98,20 @@ paid_stays w paid (slot t x) n = refl
 paid_stays w paid (share t s x) n = refl
 
 module _ (P E : ℕ) (img words : List ℕ) (c : Claim) where
+  -- 1 and 4 were not given
+  call_accepted : (a : Payment) → payment_call P E img words c ≡ accepted a
+      → (checked_image P E img ≡ true) × (payment_of P E (read P E img) words c ≡ accepted a)
+  unfolding payment_call
+  call_accepted a e = (grind (arith, common_steps), grind (arith, common_steps))
+
   pub payment_writes : (a : Payment) → payment_call P E img words c ≡ accepted a
       → PaymentWrites P E img (payment_image P E img words c) (a.delegator + a.publisher)
-  unfolding payment_call payment_image
+  unfolding payment_image
   payment_writes a e =
-      let t0 = test_passed (not (checked_image P E img)) _ _ a e in
-      let t1 = test_passed (not (positions_hold words)) _ _ a t0.1 in
       let w = read P E img in
       let paid = a.delegator + a.publisher in
-      let size = (checked_says P E img (not-false _ t0.0)).0.size in
-      let cover = payment_covered P E w words c a t1.1 in
+      let size = (checked_says P E img (call_accepted a e).0).0.size in
+      let cover = payment_covered P E w words c a (call_accepted a e).1 in
       let q : payment_image P E img words c ≡ image P E (paid_words w paid) =
       ap (λ (o : Outcome Payment). after o (λ a. image P E (paid_words w (a.delegator + a.publisher))) img) e in
       record {
@@ -127,11 +123,8 @@ module _ (P E : ℕ) (img words : List ℕ) (c : Claim) where
       }
 
   pub payment_falls : (a : Payment) → payment_call P E img words c ≡ accepted a → a.custody_fall ≤ a.delegator + a.publisher
-  unfolding payment_call
   payment_falls a e =
-      let t0 = test_passed (not (checked_image P E img)) _ _ a e in
-      let t1 = test_passed (not (positions_hold words)) _ _ a t0.1 in
-      let t = payment_tells P E (read P E img) words c a t1.1 in
+      let t = payment_tells P E (read P E img) words c a (call_accepted a e).1 in
       rw (sym t.answer) (fall_le _ _ _ _ _ t.fall t.falls (omega arith))
 
   pub refused_writes : (k : ℕ) → payment_call P E img words c ≡ refused k → payment_image P E img words c ≡ img
