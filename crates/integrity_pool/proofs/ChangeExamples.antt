@@ -16,14 +16,9 @@ use Rattle.integrity_pool.specs.declared.stake_account.StakeAccounts.{StakeAccou
 use Rattle.integrity_pool.specs.Changes.{add_call, remove_call, create_slash_event_call, created_in, slash_call, slashed_with, fee_call, stake_account_call}
 use Rattle.integrity_pool.proofs.Computing.{changes}
 use Rattle.integrity_pool.proofs.AdvanceExamples.{set_to}
+use Rattle.integrity_pool.proofs.PaymentExamples.{key, publisher}
 
 -- ---- a pool
-
-abbrev key : (a b : ℕ) → Key
-key a b = record { 0 = a; 1 = 0; 2 = 0; 3 = b }
-
-abbrev publisher : Key
-publisher = key 7 9
 
 abbrev account : Key
 account = key 3 4

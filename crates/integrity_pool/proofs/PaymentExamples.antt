@@ -15,10 +15,10 @@ use Rattle.integrity_pool.proofs.AdvanceExamples.{set_to}
 
 -- ---- a pool, positions and claims
 
-abbrev key : (a b : ℕ) → Key
+abbrev pub key : (a b : ℕ) → Key
 key a b = record { 0 = a; 1 = 0; 2 = 0; 3 = b }
 
-abbrev publisher : Key
+abbrev pub publisher : Key
 publisher = key 7 9
 
 abbrev stake_account : Key
