@@ -151,14 +151,6 @@ all_same f g (suc n) h = rw (all_same f g n (λ i l. h i (omega arith)), h n (om
 -- ---- a test of some number
 
 module _ (f : ℕ → Bool) where
-  pub any_none : any_below 0 f ≡ false
-  unfolding any_below
-  any_none = refl
-
-  pub any_more : (n : ℕ) → any_below n f ≡ false → f n ≡ false → any_below (n + 1) f ≡ false
-  unfolding any_below
-  any_more n h e = rw (add-one n, h, e)
-
   pub any_at : (n i : ℕ) → i < n → f i ≡ true → any_below n f ≡ true
   unfolding any_below
   any_at zero i l e = absurd (omega arith)

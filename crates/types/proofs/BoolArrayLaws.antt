@@ -4,7 +4,8 @@ use mathlib.Core.Path.{◌≡◌, refl, sym, ap, subst, ◌∙◌}
 use mathlib.Core.Bool.{Bool, true, false, ◌&&◌}
 use mathlib.Core.List.{List}
 use Prim.Native.Nat.{ℕ, zero, suc, ◌+◌, ◌-◌, ◌*◌, ◌/◌, ◌%◌, ◌^◌, ◌<◌, ◌≤◌, max}
-use native.Mathlib.Nat.{mod-eq_of_lt, add-zero, add-suc, mod-lt, mod-one, mul-mod_left, one-mul, pow-suc, max-le, max-zero, max-eq_right, div_self, div-eq_of_lt, zero-div}
+use native.Mathlib.Nat.{mod-eq_of_lt, add-zero, add-suc, mod-lt, mod-one, mul-mod_left, one-mul}
+use native.Mathlib.Nat.{pow-suc, max-le, max-zero, max-eq_right, div_self, div-eq_of_lt, zero-div}
 use native.Mathlib.Omega.{arith}
 use lib.Arith.{digits_mod, lt_of_le-ne}
 use lib.Bits.{bit_or, or_shr, or_step}
@@ -15,8 +16,8 @@ use lib.ListN.{length, get_or, set, replicate, get_or-replicate}
 use lib.Seq.{get_or-set_same, get_or-set_other}
 use borrow.Author.Tests.{lt-ltb, le-ltb, ltb-true, ltb-false, eqb-true, eqb-false}
 use Rattle.types.specs.Base.{count_below, to_nat}
-use Rattle.types.specs.BoolArray.{bit_at, marked, with_mark, marked_rows}
-use Rattle.types.proofs.Below.{count_none, count_more}
+use Rattle.types.specs.BoolArray.{bit_at, marked, with_mark}
+use Rattle.types.proofs.Below.{count_none, count_more, count_le}
 
 -- ---- one law for each way out of get and set
 
@@ -118,8 +119,12 @@ rows_more words k n hk e fits =
     sizes : (j : ℕ) → j * 64 + 64 ≡ (j + 1) * 64
     sizes j = omega arith
 
-pub rows_all : (words : List ℕ) (k n : ℕ) → n ≡ count_below (k * 64) (marked words) → k ≡ 16 → n ≡ marked_rows words
-rows_all words k n e q = e ∙ ap (λ (j : ℕ). count_below (j * 64) (marked words)) q
+-- so no sum is past them all
+pub rows_fit : (words : List ℕ) (k n : ℕ) → k < 16 → n ≡ count_below (k * 64) (marked words) → get_or words k 0 < 2 ^ 64
+    → n + ones (get_or words k 0) ≤ (k + 1) * 64
+rows_fit words k n hk e fits = omega (arith, rows_more words k n hk e fits, count_le (marked words) ((k + 1) * 64))
+
+pub ruleset rows = (rows_none, rows_more, rows_fit)
 
 -- ---- what marking a row changes
 

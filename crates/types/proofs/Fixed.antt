@@ -11,7 +11,14 @@ use Rattle.std.specs.Prelude.{Result, Ok, Err, if◌then◌else◌}
 use Rattle.types.specs.Base.{word, to_nat, outcome_of, outcome_by}
 use Rattle.types.specs.Refusals.{number_of}
 use Rattle.types.specs.declared.refusals.Refusal.{Refusal}
-use Rattle.types.specs.declared.refusals.Refusal.TheVariants.{InvalidImage, InvalidEpoch, InvalidPublisherCaps, InvalidPositions, InvalidY, InvalidDelegationFee, UnverifiedPublisherCaps, PoolDataAlreadyUpToDate, OutdatedPublisherCaps, InvalidPublisher, PublisherNotFound, OutdatedPublisherAccounting, DoesNotFit, ClaimableOverCustody, UnexpectedPositionState, PaymentAboveClaimable, PublisherStakeAccountMismatch, PublisherCustodyAccountRequired, OutdatedDelegatorAccounting, WrongSlashEventOrder, InvalidSlashEventIndex, SlashEventAheadOfNow, PublisherOrRewardAuthorityNeedsToSign, CurrentStakeAccountShouldBeUndelegated, StakeAccountOwnerNeedsToSign, AccountNotEnoughKeys, NewStakeAccountShouldBeUndelegated}
+use Rattle.types.specs.declared.refusals.Refusal.TheVariants.{InvalidImage, InvalidEpoch, InvalidPublisherCaps, InvalidPositions, InvalidY}
+use Rattle.types.specs.declared.refusals.Refusal.TheVariants.{InvalidDelegationFee, UnverifiedPublisherCaps, PoolDataAlreadyUpToDate}
+use Rattle.types.specs.declared.refusals.Refusal.TheVariants.{OutdatedPublisherCaps, InvalidPublisher, PublisherNotFound, OutdatedPublisherAccounting}
+use Rattle.types.specs.declared.refusals.Refusal.TheVariants.{DoesNotFit, ClaimableOverCustody, UnexpectedPositionState, PaymentAboveClaimable}
+use Rattle.types.specs.declared.refusals.Refusal.TheVariants.{PublisherStakeAccountMismatch, PublisherCustodyAccountRequired, OutdatedDelegatorAccounting}
+use Rattle.types.specs.declared.refusals.Refusal.TheVariants.{WrongSlashEventOrder, InvalidSlashEventIndex, SlashEventAheadOfNow}
+use Rattle.types.specs.declared.refusals.Refusal.TheVariants.{PublisherOrRewardAuthorityNeedsToSign, CurrentStakeAccountShouldBeUndelegated}
+use Rattle.types.specs.declared.refusals.Refusal.TheVariants.{StakeAccountOwnerNeedsToSign, AccountNotEnoughKeys, NewStakeAccountShouldBeUndelegated}
 use Rattle.types.proofs.OutcomeLaws.{not_accepted}
 use Rattle.types.specs.BoolArray.{bit_at, marked}
 use Rattle.types.specs.declared.wide.Wide.{Wide}
@@ -120,7 +127,8 @@ pub number_of_fixes : (a b : Refusal) → number_of a ≡ number_of b → a ≡ 
 number_of_fixes = by_return number_of refusal_of again
 
 -- results with the same outcome are the same, and by a view that fixes their values too
-pub outcome_by_fixes : {A B : Type 0} (view : A → B) → ((a b : A) → view a ≡ view b → a ≡ b) → (x y : Result A Refusal) → outcome_by view x ≡ outcome_by view y → x ≡ y
+pub outcome_by_fixes : {A B : Type 0} (view : A → B) → ((a b : A) → view a ≡ view b → a ≡ b) → (x y : Result A Refusal) → outcome_by view x ≡ outcome_by view y
+    → x ≡ y
 outcome_by_fixes view fixes (Ok a) (Ok b) e = ap Ok (fixes a b cc)
 outcome_by_fixes view fixes (Ok a) (Err y) e = absurd (not_accepted (view a) (number_of y) e)
 outcome_by_fixes view fixes (Err x) (Ok b) e = absurd (not_accepted (view b) (number_of x) (sym e))

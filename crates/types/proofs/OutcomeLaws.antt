@@ -1,5 +1,5 @@
 -- What an accepted outcome tells of the tests and steps in front of it, and what a refused one tells. Assumes nothing.
-use mathlib.Core.Path.{◌≡◌, refl, sym, ap, ◌∙◌}
+use mathlib.Core.Path.{◌≡◌, refl, sym, ap}
 use mathlib.Core.Logic.{◌≢◌}
 use mathlib.Core.Bool.{Bool, true, false}
 use Prim.Native.Nat.{ℕ}
@@ -73,19 +73,3 @@ ok_of (Err x) a e = absurd (not_accepted a (number_of x) (sym e))
 pub err_of : {A : Type 0} (r : Result A Refusal) (k : ℕ) → outcome_of r ≡ refused k → (x : Refusal) × (r ≡ Err x) × (number_of x ≡ k)
 err_of (Ok a) k e = absurd (not_accepted a k e)
 err_of (Err x) k e = (x, refl, cc)
-
--- behind a call that `?` asks: its value goes on, its error stands
-module _ {A B : Type 0} (r : Result A Refusal) (o : Outcome A) (f : A → Outcome B) (e : outcome_of r ≡ o) where
-  pub ok_goes_on : (a : A) → r ≡ Ok a → f a ≡ and_then o f
-  ok_goes_on a q = ap (λ (y : Outcome A). and_then y f) (sym (ap outcome_of q) ∙ e)
-
-  pub err_stands : (x : Refusal) → r ≡ Err x → refused (number_of x) ≡ and_then o f
-  err_stands x q = ap (λ (y : Outcome A). and_then y f) (sym (ap outcome_of q) ∙ e)
-
--- the same by a view
-module _ {A B C : Type 0} (view : A → B) (r : Result A Refusal) (o : Outcome B) (f : B → Outcome C) (e : outcome_by view r ≡ o) where
-  pub viewed_goes_on : (a : A) → r ≡ Ok a → f (view a) ≡ and_then o f
-  viewed_goes_on a q = ap (λ (y : Outcome B). and_then y f) (sym (ap (outcome_by view) q) ∙ e)
-
-  pub viewed_stands : (x : Refusal) → r ≡ Err x → refused (number_of x) ≡ and_then o f
-  viewed_stands x q = ap (λ (y : Outcome B). and_then y f) (sym (ap (outcome_by view) q) ∙ e)

@@ -1,7 +1,14 @@
 -- Document 01's table 'Turned back': every refusal number by name. The names are the Rust's errors where it has one. Assumes nothing.
 use Rattle.std.specs.Prelude.{ℕ}
 use Rattle.types.specs.declared.refusals.Refusal.{Refusal}
-use Rattle.types.specs.declared.refusals.Refusal.TheVariants.{InvalidImage, InvalidEpoch, InvalidPublisherCaps, InvalidPositions, InvalidY, InvalidDelegationFee, UnverifiedPublisherCaps, PoolDataAlreadyUpToDate, OutdatedPublisherCaps, InvalidPublisher, PublisherNotFound, OutdatedPublisherAccounting, DoesNotFit, ClaimableOverCustody, UnexpectedPositionState, PaymentAboveClaimable, PublisherStakeAccountMismatch, PublisherCustodyAccountRequired, OutdatedDelegatorAccounting, WrongSlashEventOrder, InvalidSlashEventIndex, SlashEventAheadOfNow, PublisherOrRewardAuthorityNeedsToSign, CurrentStakeAccountShouldBeUndelegated, StakeAccountOwnerNeedsToSign, AccountNotEnoughKeys, NewStakeAccountShouldBeUndelegated}
+use Rattle.types.specs.declared.refusals.Refusal.TheVariants.{InvalidImage, InvalidEpoch, InvalidPublisherCaps, InvalidPositions, InvalidY}
+use Rattle.types.specs.declared.refusals.Refusal.TheVariants.{InvalidDelegationFee, UnverifiedPublisherCaps, PoolDataAlreadyUpToDate}
+use Rattle.types.specs.declared.refusals.Refusal.TheVariants.{OutdatedPublisherCaps, InvalidPublisher, PublisherNotFound, OutdatedPublisherAccounting}
+use Rattle.types.specs.declared.refusals.Refusal.TheVariants.{DoesNotFit, ClaimableOverCustody, UnexpectedPositionState, PaymentAboveClaimable}
+use Rattle.types.specs.declared.refusals.Refusal.TheVariants.{PublisherStakeAccountMismatch, PublisherCustodyAccountRequired, OutdatedDelegatorAccounting}
+use Rattle.types.specs.declared.refusals.Refusal.TheVariants.{WrongSlashEventOrder, InvalidSlashEventIndex, SlashEventAheadOfNow}
+use Rattle.types.specs.declared.refusals.Refusal.TheVariants.{PublisherOrRewardAuthorityNeedsToSign, CurrentStakeAccountShouldBeUndelegated}
+use Rattle.types.specs.declared.refusals.Refusal.TheVariants.{StakeAccountOwnerNeedsToSign, AccountNotEnoughKeys, NewStakeAccountShouldBeUndelegated}
 
 -- image size, P, E, n
 abbrev pub invalid_image : ℕ

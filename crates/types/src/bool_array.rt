@@ -37,6 +37,7 @@ impl BoolArray {
     }
 
     // How many rows are marked: the ones, counted over the mark words.
+    #[tactic(auto, using(crate::proofs::BoolArrayLaws::rows))]
     pub fn count(&self) -> usize
         ensures { result ≡ marked_rows self.now.words }
     {

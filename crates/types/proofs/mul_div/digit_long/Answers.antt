@@ -1,6 +1,6 @@
 use mathlib.Core.Path.{◌≡◌}
-use Prim.Native.Nat.{ℕ, ◌+◌, ◌-◌, ◌*◌, ◌/◌, ◌%◌, ◌^◌, ◌≤◌, ◌<◌}
-use native.Mathlib.Nat.{div-add-mod', mod-lt, div-lt_iff_lt-mul, mul-le-mul}
+use Prim.Native.Nat.{ℕ, ◌+◌, ◌-◌, ◌*◌, ◌/◌, ◌%◌, ◌^◌, ◌<◌}
+use native.Mathlib.Nat.{div-add-mod', div-lt_iff_lt-mul}
 use native.Mathlib.Omega.{arith}
 use Rattle.types.specs.MulDiv.{Division}
 use Rattle.types.proofs.MulDivLaws.{estimate}
@@ -21,14 +21,8 @@ module _ (h x d : ℕ) where
   t = q * (2 ^ 32 - d % 2 ^ 32)
 
 module _ (h x d : ℕ) (hh : h < d) where
-  left_lt : h % e h x d < e h x d
-  left_lt = mod-lt h (omega arith)
-
   q_lt : q h x d < 2 ^ 32
   q_lt = (div-lt_iff_lt-mul {k = e h x d} {x = h} {y = 2 ^ 32} (omega arith)).1 (omega arith)
-
-  t_le : t h x d ≤ (2 ^ 32 - 1) * 2 ^ 32
-  t_le = mul-le-mul {n₁ = q h x d} {m₁ = 2 ^ 32 - d % 2 ^ 32} {n₂ = 2 ^ 32 - 1} {m₂ = 2 ^ 32} (omega (arith, q_lt)) (omega arith)
 
   sum_is : q h x d * d + (s h x d + t h x d) ≡ h * 2 ^ 32 + x
   sum_is = estimate h x d (q h x d) (h % e h x d) (2 ^ 32 - d % 2 ^ 32) (div-add-mod' h (e h x d)) (omega arith)
