@@ -7,7 +7,7 @@ use native.Mathlib.Omega.{arith}
 use lib.ListN.{length, get_or, take, drop}
 use Rattle.std.specs.Prelude.{IsTrue, ◌↔◌, All, Any}
 use Rattle.std.specs.Simd.{first_chunks}
-use Rattle.std.proofs.lemmas.List.{get_or-take, get_or-drop, drop-drop, length-drop, length-take-le}
+use Rattle.std.proofs.lemmas.List.{get_or-take, get_or-drop, drop-drop}
 use Rattle.types.specs.Base.{all_below, any_below}
 use Rattle.types.proofs.Below.{all_same, any_same}
 use Rattle.types.proofs.ListLaws.{all_list, any_list}
@@ -34,9 +34,6 @@ module _ (words : List ℕ) (i : ℕ) (inside : i < length words / 9) (d : List 
 
   nine_is : nine ≡ take 9 (drop (i * 9) words)
   nine_is = nine_at (length words / 9) i words d inside
-
-  pub nine_length : length nine ≡ 9
-  nine_length = ap length nine_is ∙ length-take-le 9 (drop (i * 9) words) (omega (arith, length-drop (i * 9) words))
 
   -- its words
   pub nine_word : (k : ℕ) → k < 9 → get_or nine k 0 ≡ get_or words (i * 9 + k) 0

@@ -2,20 +2,16 @@
 use mathlib.Core.Path.{◌≡◌, refl, subst}
 use mathlib.Core.Logic.{◌⊎◌, inl, inr}
 use mathlib.Core.Bool.{Bool, true, false, not}
-use mathlib.Core.List.{List}
 use Prim.Native.Nat.{ℕ, ◌+◌, ◌<◌, ◌≤◌}
 use native.Mathlib.Omega.{arith}
 use lib.Dec.{ltb, leb, eqb}
-use lib.ListN.{length, get_or}
 use borrow.Author.Tests.{lt-ltb, le-ltb, lt-leb, le-leb, eq-eqb, ne_eqb, ltb-true, ltb-false, leb-true, leb-false, eqb-true, eqb-false}
 use Rattle.std.specs.Prelude.{if◌then◌else◌}
 use Rattle.types.specs.Base.{word, Outcome, refused, accepted}
-use Rattle.types.specs.Refusals.{invalid_positions, does_not_fit}
-use Rattle.positions.specs.declared.position.Position.{Position}
+use Rattle.types.specs.Refusals.{does_not_fit}
 use Rattle.positions.specs.declared.position.PositionState.{PositionState}
 use Rattle.positions.specs.declared.position.PositionState.TheVariants.{UNLOCKED, LOCKING, LOCKED, PREUNLOCKING, UNLOCKING}
-use Rattle.positions.specs.Positions.{position_from, position_holds}
-use Rattle.positions.specs.State.{state_by, state_of, state_call, adds}
+use Rattle.positions.specs.State.{state_by, adds}
 
 -- ---- one law for each answer
 
@@ -49,26 +45,6 @@ module _ (activation flag start epoch unlocking : ℕ) where
   unlocked h g f u =
       let e : start ≤ epoch = omega arith in
       simp (le-ltb _ _ h, eq-eqb _ _ g, lt-leb _ _ f, le-ltb _ _ e, le-ltb _ _ u)
-
--- ---- of a list that is one position
-
-module _ (words : List ℕ) (epoch unlocking : ℕ) where
-  pub other_length : (length words ≡ 9 → ⊥) → refused invalid_positions ≡ state_call words epoch unlocking
-  unfolding state_call
-  other_length n = rw (ne_eqb (length words) 9 n)
-
-  pub not_held : length words ≡ 9 → position_holds words 0 ≡ false → refused invalid_positions ≡ state_call words epoch unlocking
-  unfolding state_call
-  not_held l h = rw (eq-eqb (length words) 9 l, h)
-
-  pub empty_refused : length words ≡ 9 → position_holds words 0 ≡ true → get_or words 0 0 ≡ 0 → refused invalid_positions ≡ state_call words epoch unlocking
-  unfolding state_call
-  empty_refused l h e = rw (eq-eqb (length words) 9 l, h, eq-eqb (get_or words 0 0) 0 e)
-
-  pub state_read : (p : Position) → length words ≡ 9 → position_holds words 0 ≡ true → (get_or words 0 0 ≡ 0 → ⊥) → p ≡ position_from words 0
-      → state_of p epoch unlocking ≡ state_call words epoch unlocking
-  unfolding state_call
-  state_read p l h n q = rw (q, eq-eqb (length words) 9 l, h, ne_eqb (get_or words 0 0) 0 n)
 
 -- ---- what an answer tells
 

@@ -9,7 +9,8 @@ use types::refusals::Refusal;
 use types::{Amount, Epoch};
 
 // The nine words of a position by name. The kind is 0 for an empty position, 1 for voting, 2 for
-// a pool; unlocking has a start where the flag is 1.
+// a pool; unlocking has a start where the flag is 1. Both are words: a list holds any, refusal 4 is asked of the words, and an
+// empty position's flag may be anything, so an enum would need a variant for every number.
 #[derive(Clone, Copy, Debug, Default, PartialEq, Eq)]
 pub struct Position {
     pub kind: u64,
