@@ -16,14 +16,6 @@ module _ (total change : ℕ) where
   unfolding roll_of
   roll_into e = rw e
 
-  pub roll_only : roll_of total change ≡ refused does_not_fit → roll_fits total change ≡ false
-  roll_only e = go (roll_fits total change) refl
-    where
-      go : (t : Bool) → roll_fits total change ≡ t → roll_fits total change ≡ false
-      go true h =
-          let q = roll_into h in absurd cc
-      go false h = h
-
   pub roll_fits_law : (s : Side) → roll_of total change ≡ accepted s → roll_fits total change ≡ true
   roll_fits_law s e = go (roll_fits total change) refl
     where

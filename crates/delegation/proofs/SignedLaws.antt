@@ -1,6 +1,7 @@
 -- The definitions on signed words are signed arithmetic: by the place of a word among the signed words, 0 for -2^63 and `half` for 0,
 -- each answer is the sum or the difference, and each 13 has its number out of range. Assumes nothing.
-use Rattle.std.proofs.Common.{◌≡◌, ℕ, ◌+◌, ◌-◌, ◌%◌, ◌<◌, ◌≤◌, Bool, true, false, ◌&&◌, ltb, leb, ◌⊎◌, refl, subst, inl, inr, arith, ltb-false, ltb-true, leb-false, leb-true}
+use Rattle.std.proofs.Common.{◌≡◌, ℕ, ◌+◌, ◌-◌, ◌%◌, ◌<◌, ◌≤◌, Bool, true, false, ◌&&◌, ltb, leb, ◌⊎◌}
+use Rattle.std.proofs.Common.{refl, subst, inl, inr, arith, ltb-false, ltb-true, leb-false, leb-true}
 use Rattle.std.specs.Prelude.{if◌then◌else◌}
 use Rattle.types.specs.Base.{word, half, Outcome, refused, accepted}
 use Rattle.types.specs.Refusals.{does_not_fit}
