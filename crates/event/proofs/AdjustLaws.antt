@@ -3,7 +3,8 @@ use mathlib.Core.Path.{◌≡◌, refl, subst}
 use mathlib.Core.Logic.{◌⊎◌, inl, inr, ⊎_elim}
 use mathlib.Core.Bool.{Bool, true, false}
 use Prim.Native.Nat.{ℕ, ◌+◌, ◌-◌, ◌*◌, ◌/◌, ◌≤◌, ◌<◌}
-use native.Mathlib.Nat.{le_refl, le_of_lt, mul-le-mul_left, mul-le-mul_right, div-le_of_le-mul, div-mul-le_self, div-lt_iff_lt-mul, lt-div-mul-add, lt_of_mul-lt-mul_right}
+use native.Mathlib.Nat.{le_refl, le_of_lt, mul-le-mul_left, mul-le-mul_right, div-le_of_le-mul}
+use native.Mathlib.Nat.{div-mul-le_self, div-lt_iff_lt-mul, lt-div-mul-add, lt_of_mul-lt-mul_right}
 use native.Mathlib.Omega.{arith}
 use lib.Dec.{leb, ltb}
 use borrow.Author.Tests.{leb-true, leb-false, ltb-true, ltb-false}
@@ -26,7 +27,8 @@ pub lowered_aside_le : (T y A R : ℕ) → R ≡ rewards_of T y → A < R → re
 unfolding rewards_of
 lowered_aside_le T y A R e h =
     let total : T * y < R * M + M = rw e (lt-div-mul-add {a = T * y} {b = M} (omega arith)) in
-    let small : T * (y * A / R) / M < A + 1 = (div-lt_iff_lt-mul {k = M} {x = T * (y * A / R)} {y = A + 1} (omega arith)).1 (aside_core T y A R (y * A / R) (div-mul-le_self (y * A) R) total h) in
+    let small : T * (y * A / R) / M < A + 1 =
+    (div-lt_iff_lt-mul {k = M} {x = T * (y * A / R)} {y = A + 1} (omega arith)).1 (aside_core T y A R (y * A / R) (div-mul-le_self (y * A) R) total h) in
     omega arith
 
 -- what an accepted adjustment keeps: y does not grow, y' is what the amount is set aside for, and claimable with it stays within custody

@@ -19,7 +19,9 @@ ratio_some p t h = rw (ne_eqb t 0 (λ z. omega arith))
 
 -- a part of a total is at most a whole
 pub ratio_le : (p t : ℕ) → p ≤ t → ratio_of p t ≤ M
-ratio_le p t h = ⊎_elim (λ z. rw (ratio_empty p t z) (omega arith)) (λ k. rw (ratio_some p t k) (div-le_of_le-mul t {m = M * p} {n = M} (omega (arith, mul-le-mul_left M h)))) (eq-zero-or-pos t)
+ratio_le p t h =
+    ⊎_elim (λ z. rw (ratio_empty p t z) (omega arith))
+    (λ k. rw (ratio_some p t k) (div-le_of_le-mul t {m = M * p} {n = M} (omega (arith, mul-le-mul_left M h)))) (eq-zero-or-pos t)
 
 -- the ratio of what is eligible is rounded down
 pub ratio_part : (p t : ℕ) → t * ratio_of p t ≤ M * p
