@@ -2,7 +2,7 @@
 use mathlib.Core.Path.{◌≡◌, refl, sym, ap, ◌∙◌}
 use mathlib.Core.Bool.{Bool, true, false, ◌&&◌}
 use mathlib.Core.List.{List, [], ◌∷◌}
-use Prim.Native.Nat.{ℕ, zero, suc, ◌+◌, ◌*◌, ◌/◌, ◌%◌, ◌^◌, ◌<◌}
+use Prim.Native.Nat.{ℕ, zero, suc, ◌+◌, ◌*◌, ◌/◌, ◌%◌, ◌^◌, ◌≤◌, ◌<◌}
 use native.Mathlib.Nat.{add-zero, add-suc, mul_assoc, pow-suc, add_assoc, mod-eq_of_lt}
 use native.Mathlib.Omega.{arith}
 use Rattle.std.proofs.Common.{lit<}
@@ -13,7 +13,7 @@ use Rattle.std.specs.Ordering.{MatchOrdering, nat_cmp, ordering_then, partial_or
 use Rattle.std.specs.Cmp.{nat_cmp_is, Some-then}
 use Rattle.std.proofs.lemmas.Cmp.{ranked}
 use lib.Dec.{ltb, eqb}
-use borrow.Author.Tests.{lt-ltb, le-ltb, eq-eqb, eqb-true}
+use borrow.Author.Tests.{lt-ltb, le-ltb, eq-eqb, eqb-true, ltb-true, ltb-false}
 use Rattle.std.proofs.lemmas.List.{get_or-take, get_or-drop}
 use Rattle.types.specs.Base.{word}
 use Rattle.types.proofs.Below.{and_both}
@@ -246,6 +246,17 @@ module _ (k l : KeyNumber) where
       let same : eq_of k l ≡ true = simp (eq-eqb k.0 l.0 t1.0, eq-eqb k.1 l.1 t1.1, eq-eqb k.2 l.2 t2.1, eq-eqb k.3 l.3 t3.1) in
       absurd cc
 
+-- what their answers say of the numbers
+module _ (k l : KeyNumber) (small_k : Small k) (small_l : Small l) (t : Bool) where
+  pub less_says : t ≡ lt_of k l → t ≡ true → number_by k < number_by l
+  less_says e h = ltb-true _ _ (sym (lt_number k l small_k small_l) ∙ sym e ∙ h)
+
+  pub not_less_says : t ≡ lt_of k l → t ≡ false → number_by l ≤ number_by k
+  not_less_says e h = ltb-false _ _ (sym (lt_number k l small_k small_l) ∙ sym e ∙ h)
+
+  pub other_says : t ≡ eq_of k l → t ≡ false → number_by k ≡ number_by l → ⊥
+  other_says e h q = eq_false k l (sym e ∙ h) q small_k small_l
+
 -- ---- the library's reading
 
 big_sum : (xs : List ℕ)
@@ -270,7 +281,16 @@ module _ (m : List ℕ) (at : ℕ) where
   pub big_word : from_be_bytes w64 (take 8 (drop at m)) ≡ big_endian m at 8
   big_word =
       big_sum (take 8 (drop at m))
-      ∙ rw (first 8 (lit< tt), byte 8 1 (lit< tt), byte 8 2 (lit< tt), byte 8 3 (lit< tt), byte 8 4 (lit< tt), byte 8 5 (lit< tt), byte 8 6 (lit< tt), byte 8 7 (lit< tt)) (eight m at)
+      ∙ rw (
+        first 8 (lit< tt),
+        byte 8 1 (lit< tt),
+        byte 8 2 (lit< tt),
+        byte 8 3 (lit< tt),
+        byte 8 4 (lit< tt),
+        byte 8 5 (lit< tt),
+        byte 8 6 (lit< tt),
+        byte 8 7 (lit< tt),
+      ) (eight m at)
 
   pub big_half : from_be_bytes w16 (take 2 (drop at m)) ≡ big_endian m at 2
   unfolding big_endian
@@ -279,7 +299,16 @@ module _ (m : List ℕ) (at : ℕ) where
   pub little_word : from_le_bytes w64 (take 8 (drop at m)) ≡ little_endian m at 8
   little_word =
       little_sum (take 8 (drop at m))
-      ∙ rw (first 8 (lit< tt), byte 8 1 (lit< tt), byte 8 2 (lit< tt), byte 8 3 (lit< tt), byte 8 4 (lit< tt), byte 8 5 (lit< tt), byte 8 6 (lit< tt), byte 8 7 (lit< tt)) (omega (arith, eight_little m at))
+      ∙ rw (
+        first 8 (lit< tt),
+        byte 8 1 (lit< tt),
+        byte 8 2 (lit< tt),
+        byte 8 3 (lit< tt),
+        byte 8 4 (lit< tt),
+        byte 8 5 (lit< tt),
+        byte 8 6 (lit< tt),
+        byte 8 7 (lit< tt),
+      ) (omega (arith, eight_little m at))
 
 pub swapped_word : (x : ℕ) → swap_bytes w64 x ≡ swapped x
 swapped_word x = big_sum (to_le_bytes w64 x) ∙ swap_sum x

@@ -64,45 +64,6 @@ module _ (m : List ℕ) (key : ℕ) where
 
 -- ---- the search
 
--- its answer, a number: no message has a row 1,024
-abbrev pub or_none : Option ℕ → ℕ
-or_none r = unwrap_or r 1_024
-
-module _ (m : List ℕ) (from rows key : ℕ) (given : Whole m × (from + rows ≤ rows_of m)) where
-  pub search_none : rows ≡ 0 → None ≡ lookup m key from rows
-  search_none e = sym (lookup_without m key from rows (λ i a b. absurd (omega arith)))
-
-  -- later keys are not smaller
-  at_least : (i j : ℕ) → i ≤ j → j < from + rows → key_at m i ≤ key_at m j
-  at_least i j ij jr = go (ℕ_discrete i j)
-    where
-      go : Dec (i ≡ j) → key_at m i ≤ key_at m j
-      go (yes e) = omega (arith, ap (key_at m) e)
-      go (no ne) = omega (arith, given.0.ordered i j (omega arith) (omega arith))
-
-  pub search_low : 0 < rows → key < key_at m (from + rows / 2) → lookup m key from (rows / 2) ≡ lookup m key from rows
-  search_low pos l =
-      cut m key (rows / 2) from (rows - rows / 2) (λ i a b q. omega (arith, at_least (from + rows / 2) i a (omega arith)))
-      ∙ ap (λ (n : ℕ). lookup m key from n) (omega arith)
-
-  pub search_here : (n : ℕ) → n ≡ from + rows / 2 → 0 < rows → key ≡ key_at m (from + rows / 2) → Some n ≡ lookup m key from rows
-  search_here n q pos e =
-      ap Some q
-      ∙ first m key (from + rows / 2) (rows - rows / 2) (omega arith) e
-      ∙ skip m key (rows / 2) from (rows - rows / 2) (λ i a b z. omega (arith, given.0.ordered i (from + rows / 2) b (omega arith)))
-      ∙ ap (λ (n : ℕ). lookup m key from n) (omega arith)
-
-  pub search_high : 0 < rows → key_at m (from + rows / 2) < key → lookup m key (from + rows / 2 + 1) (rows - rows / 2 - 1) ≡ lookup m key from rows
-  search_high pos l =
-      ap (λ (n : ℕ). lookup m key n (rows - rows / 2 - 1)) (along from (rows / 2))
-      ∙ skip m key (rows / 2 + 1) from (rows - rows / 2 - 1) (λ i a b q. omega (arith, at_least i (from + rows / 2) (omega arith) (omega arith)))
-      ∙ ap (λ (n : ℕ). lookup m key from n) (omega arith)
-    where
-      along : (a b : ℕ) → a + b + 1 ≡ a + (b + 1)
-      along a b = omega arith
-
--- ---- rows that a key can stand in alone
-
 module _ (m : List ℕ) (whole : Whole m) where
   -- later keys are not smaller
   keys_rise : (i j : ℕ) → i ≤ j → j < rows_of m → key_at m i ≤ key_at m j
@@ -112,20 +73,52 @@ module _ (m : List ℕ) (whole : Whole m) where
       go (yes e) = omega (arith, ap (key_at m) e)
       go (no ne) = omega (arith, whole.ordered i j (omega arith) (omega arith))
 
+-- its answer, a number: no message has a row 1,024
+abbrev pub or_none : Option ℕ → ℕ
+or_none r = unwrap_or r 1_024
+
+module _ (m : List ℕ) (whole : Whole m) (from rows key : ℕ) (within : from + rows ≤ rows_of m) where
+  pub search_none : rows ≡ 0 → None ≡ lookup m key from rows
+  search_none e = sym (lookup_without m key from rows (λ i a b. absurd (omega arith)))
+
+  pub search_low : (rows ≡ 0 → ⊥) → key < key_at m (from + rows / 2) → lookup m key from (rows / 2) ≡ lookup m key from rows
+  search_low pos l =
+      cut m key (rows / 2) from (rows - rows / 2) (λ i a b q. omega (arith, keys_rise m whole (from + rows / 2) i a (omega arith)))
+      ∙ ap (λ (n : ℕ). lookup m key from n) (omega arith)
+
+  pub search_here : (n : ℕ) → n ≡ from + rows / 2 → (rows ≡ 0 → ⊥) → key ≡ key_at m (from + rows / 2) → Some n ≡ lookup m key from rows
+  search_here n q pos e =
+      ap Some q
+      ∙ first m key (from + rows / 2) (rows - rows / 2) (omega arith) e
+      ∙ skip m key (rows / 2) from (rows - rows / 2) (λ i a b z. omega (arith, whole.ordered i (from + rows / 2) b (omega arith)))
+      ∙ ap (λ (n : ℕ). lookup m key from n) (omega arith)
+
+  pub search_high : (rows ≡ 0 → ⊥) → key_at m (from + rows / 2) < key → lookup m key (from + rows / 2 + 1) (rows - rows / 2 - 1) ≡ lookup m key from rows
+  search_high pos l =
+      ap (λ (n : ℕ). lookup m key n (rows - rows / 2 - 1)) (along from (rows / 2))
+      ∙ skip m key (rows / 2 + 1) from (rows - rows / 2 - 1) (λ i a b q. omega (arith, keys_rise m whole i (from + rows / 2) (omega arith) (omega arith)))
+      ∙ ap (λ (n : ℕ). lookup m key from n) (omega arith)
+    where
+      along : (a b : ℕ) → a + b + 1 ≡ a + (b + 1)
+      along a b = omega arith
+
+-- ---- rows that a key can stand in alone
+
+module _ (m : List ℕ) (whole : Whole m) where
   pub above_none : (low first : ℕ) → low ≡ 0 → AboveFront m low first
   above_none low first e i b c d l = absurd (omega arith)
 
-  pub above_front : (low first : ℕ) (k : KeyNumber) → 0 < low → low ≤ rows_of m → number_by k ≡ key_at m (low - 1)
+  pub above_front : (low first rows : ℕ) (k : KeyNumber) → (low ≡ 0 → ⊥) → low ≤ rows → rows ≡ rows_of m → number_by k ≡ key_at m (low - 1)
       → k.1 < word → k.2 < word → k.3 < word → k.0 < first → AboveFront m low first
-  above_front low first k pos le e f1 f2 f3 h i b c d l =
-      omega (arith, keys_rise i (low - 1) (omega arith) (omega arith), e, less_0 k.0 k.1 k.2 k.3 first b c d h f1 f2 f3)
+  above_front low first rows k pos le er e f1 f2 f3 h i b c d l =
+      omega (arith, keys_rise m whole i (low - 1) (omega arith) (omega arith), e, less_0 k.0 k.1 k.2 k.3 first b c d h f1 f2 f3)
 
   pub below_none : (high first : ℕ) → rows_of m ≤ high → BelowRest m high first
   below_none high first h i b c d l k fb fc fd = absurd (omega arith)
 
   pub below_rest : (high first : ℕ) (k : KeyNumber) → number_by k ≡ key_at m high → first < k.0 → BelowRest m high first
   below_rest high first k e h i b c d l n fb fc fd =
-      omega (arith, keys_rise high i l n, e, less_0 first b c d k.0 k.1 k.2 k.3 h fb fc fd)
+      omega (arith, keys_rise m whole high i l n, e, less_0 first b c d k.0 k.1 k.2 k.3 h fb fc fd)
 
   -- the search among them is one among all
   pub enclosed : (low high rows : ℕ) (k : KeyNumber) → Encloses m low high k.0 → k.1 < word → k.2 < word → k.3 < word → rows ≡ rows_of m

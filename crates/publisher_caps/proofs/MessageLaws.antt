@@ -80,6 +80,9 @@ module _ (m : List ℕ) where
   whole_holds w =
       sym (by_keys (rows_of m) refl w.low w.high true w.few w.room (ordered_holds m (rows_of m) w.ordered w.nonzero))
 
+-- the ways out of the check
+pub ruleset checks = (too_short, too_long, no_room, too_many, by_keys)
+
 -- ---- a row's words
 
 module _ (m : List ℕ) (i : ℕ) where

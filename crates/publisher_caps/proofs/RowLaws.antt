@@ -1,6 +1,6 @@
 -- Laws of the keys' order: what the check's loop keeps, and what its answer says. Assumes nothing.
-use mathlib.Core.Path.{◌≡◌, refl, sym, ap, subst, ◌∙◌}
-use mathlib.Core.Logic.{◌⊎◌, ⊎_elim}
+use mathlib.Core.Path.{◌≡◌, refl, sym, ap, ◌∙◌}
+use mathlib.Core.Logic.{⊎_elim}
 use mathlib.Core.Bool.{Bool, true, false, ◌&&◌}
 use mathlib.Core.List.{List}
 use Prim.Native.Nat.{ℕ, zero, suc, ◌+◌, ◌-◌, ◌*◌, ◌<◌, ◌≤◌}
@@ -39,18 +39,6 @@ and_true : (a b : Bool) → a ≡ true → b ≡ true → true ≡ (a && b)
 and_true a b ea eb = rw (ea, eb)
 
 module _ (m : List ℕ) where
-  pub climbs_none : Climbs m 0
-  climbs_none = record { each = λ j l. absurd (omega arith) }
-
-  pub climbs_next : (i : ℕ) → Climbs m i → key_before m i < key_at m i → Climbs m (i + 1)
-  climbs_next i h l = rw (add-one i) (record { each = λ j lj. go j lj (eq-or-lt_of_le (omega arith)) })
-    where
-      go : (j : ℕ) → j < suc i → (j ≡ i) ⊎ (j < i) → key_before m j < key_at m j
-      go j lj w = ⊎_elim (λ q. subst (λ (n : ℕ). key_before m n < key_at m n) (sym q) l) (λ k. h.each j k) w
-
-  pub first_next : (i first : ℕ) → first ≡ big_endian m (11 + i * 40) 8 → first ≡ first_before m (i + 1)
-  first_next i first e = rw (add-one i) e
-
   -- the row before is below: so no key is zero
   above_zero : (i : ℕ) → key_before m i < key_at m i → 0 < key_at m i
   above_zero i h = omega arith

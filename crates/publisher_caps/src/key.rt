@@ -5,7 +5,7 @@ ghost use Rattle.publisher_caps.specs.Key.{number_of, number_by};
 use positions::Key;
 
 // The four words of a key as big-endian numbers, the highest first, compared in this order.
-#[derive(Clone, Copy, Default, PartialEq, Eq, PartialOrd, Ord)]
+#[derive(Clone, Copy, Debug, Default, PartialEq, Eq, PartialOrd, Ord)]
 pub struct KeyNumber(pub u64, pub u64, pub u64, pub u64);
 
 impl From<Key> for KeyNumber {

@@ -25,7 +25,7 @@ pub struct PublisherCap {
 }
 
 // A message that has been checked, and how many rows it has.
-#[derive(Clone, Copy)]
+#[derive(Clone, Copy, Debug, PartialEq, Eq)]
 pub struct PublisherCaps<'a> {
     pub message: &'a [u8],
     pub rows: usize,
@@ -133,7 +133,7 @@ pub fn num_publishers(m: &[u8]) -> usize
 }
 
 // Whether a message is as it should be: its length, its row count, and its keys.
-#[tactic(auto, using(crate::proofs::MessageLaws::too_short, crate::proofs::MessageLaws::too_long, crate::proofs::MessageLaws::no_room, crate::proofs::MessageLaws::too_many, crate::proofs::MessageLaws::by_keys))]
+#[tactic(auto, using(crate::proofs::MessageLaws::checks))]
 pub fn checked(m: &[u8]) -> bool
     ensures { result ≡ message_holds m.now }
 {
