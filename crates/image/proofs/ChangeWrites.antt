@@ -10,7 +10,8 @@ use borrow.Author.Tests.{eq-eqb, ne_eqb}
 use Rattle.types.specs.Base.{refused}
 use Rattle.positions.specs.declared.Key.{Key}
 use Rattle.delegation.specs.declared.DelegationState.{DelegationState}
-use Rattle.image.specs.Layout.{self, publishers, total_delegation, delta_delegation, publisher_stake_accounts, num_slash_events, delegation_fees, Field, head, seat, slot, share, Words, size, num_events_at, addr, InRange, read, image}
+use Rattle.image.specs.Layout.{self, publishers, total_delegation, delta_delegation, publisher_stake_accounts, num_slash_events}
+use Rattle.image.specs.Layout.{delegation_fees, Field, head, seat, slot, share, Words, size, num_events_at, addr, InRange, read, image}
 use Rattle.image.specs.Seats.{word_of, keyed, FilledFrom, side_at}
 use Rattle.image.specs.Changes.{whose, with_slash_events, with_stake_account, with_fees, changed_image, acceptance}
 use Rattle.image.proofs.ListLaws.{lt_or_le}
@@ -49,7 +50,8 @@ module _ (P E : ℕ) (img : List ℕ) (long : length img ≡ size P E) where
   -- ---- a seat's stake account: `at` is where its first word stands, the others behind it
 
   module _ (s : ℕ) (in_seat : s < P) (k : Key) (at : ℕ) where
-    account_at : at ≡ 2 + 8 * P + s * 4 → (c : ℕ) → c < 4 → InRange P E (seat s (publisher_stake_accounts c)) × (place at c ≡ addr P E (seat s (publisher_stake_accounts c)))
+    account_at : at ≡ 2 + 8 * P + s * 4 → (c : ℕ) → c < 4
+        → InRange P E (seat s (publisher_stake_accounts c)) × (place at c ≡ addr P E (seat s (publisher_stake_accounts c)))
     account_at q zero l = ((in_seat, l), omega arith)
     account_at q (suc c) l = ((in_seat, l), omega arith)
 
@@ -68,7 +70,8 @@ module _ (P E : ℕ) (img : List ℕ) (long : length img ≡ size P E) where
     pub stake_account_written : at ≡ 2 + 8 * P + s * 4 → keyed img at k ≡ image P E (with_stake_account w0 s k)
     unfolding with_stake_account stored
     stake_account_written q =
-        stored_is P E (λ c. seat s (publisher_stake_accounts c)) (word_of k) img at 4 (account_at q) long (with_stake_account w0 s k) (λ c l. rw (eq-eqb s s refl)) else_account
+        stored_is P E (λ c. seat s (publisher_stake_accounts c)) (word_of k) img at 4 (account_at q) long (with_stake_account w0 s k)
+        (λ c l. rw (eq-eqb s s refl)) else_account
 
   -- ---- every seat's fee: they stand at the end
 

@@ -52,9 +52,11 @@ module _ (P E : ℕ) where
       by_below (Placed P E i) _ _ _ _ (λ h. record { range = tt; place = omega arith }) λ h1.
       by_below (Placed P E i) _ _ _ _ (λ h. record { range = (omega arith, omega arith); place = omega arith }) λ h2.
       by_below (Placed P E i) _ _ _ _ (λ h.
-      by_equal (Placed P E i) _ _ _ _ (λ q. record { range = (omega arith, tt); place = omega arith }) (λ q. record { range = (omega arith, tt); place = omega arith })) λ h3.
+      by_equal (Placed P E i) _ _ _ _ (λ q. record { range = (omega arith, tt); place = omega arith })
+      (λ q. record { range = (omega arith, tt); place = omega arith })) λ h3.
       by_below (Placed P E i) _ _ _ _ (λ h.
-      by_equal (Placed P E i) _ _ _ _ (λ q. record { range = (omega arith, tt); place = omega arith }) (λ q. record { range = (omega arith, tt); place = omega arith })) λ h4.
+      by_equal (Placed P E i) _ _ _ _ (λ q. record { range = (omega arith, tt); place = omega arith })
+      (λ q. record { range = (omega arith, tt); place = omega arith })) λ h4.
       by_below (Placed P E i) _ _ _ _ (λ h. record { range = (omega arith, omega arith); place = omega arith }) λ h5.
       by_below (Placed P E i) _ _ _ _ (λ h.
       let j = i - events_at P in

@@ -7,7 +7,10 @@ use native.Mathlib.Nat.{mul-le-mul_right}
 use lib.ListN.{get_or, length}
 use lib.Arith.{digits_div, digits_mod}
 use borrow.Author.Tests.{lt-ltb, le-ltb, eq-eqb, ne_eqb}
-use Rattle.image.specs.Layout.{Whose, self, other, last_updated_epoch, claimable_rewards, num_events, publishers, total_delegation, delta_delegation, publisher_stake_accounts, num_slash_events, delegation_fees, event_epoch, event_y, extra_space, reward_ratio, event_fee, Field, head, seat, slot, share, Words, event_size, events_at, size, addr, InRange, if_below, if_equal, side_field, event_field, field_of, read, tabulate, image}
+use Rattle.image.specs.Layout.{Whose, self, other, last_updated_epoch, claimable_rewards, num_events, publishers, total_delegation}
+use Rattle.image.specs.Layout.{delta_delegation, publisher_stake_accounts, num_slash_events, delegation_fees, event_epoch, event_y}
+use Rattle.image.specs.Layout.{extra_space, reward_ratio, event_fee, Field, head, seat, slot, share, Words, event_size, events_at}
+use Rattle.image.specs.Layout.{size, addr, InRange, if_below, if_equal, side_field, event_field, field_of, read, tabulate, image}
 
 pub get_d_tabulate : (n : ℕ) (f : ℕ → ℕ) (i : ℕ) → i < n → get_or (tabulate n f) i 0 ≡ f i
 unfolding tabulate
@@ -59,7 +62,8 @@ event_spare t c h = past _ _ _ _ _ (omega arith) (past _ _ _ _ _ (omega arith) (
 
 module _ (t o : ℕ) where
   past_spares : (z : Field) →
-      if_equal ((9 + o - 9) % 3) 0 (share t ((9 + o - 9) / 3) (reward_ratio self)) (if_equal ((9 + o - 9) % 3) 1 (share t ((9 + o - 9) / 3) (reward_ratio other)) (share t ((9 + o - 9) / 3) event_fee)) ≡ z →
+      if_equal ((9 + o - 9) % 3) 0 (share t ((9 + o - 9) / 3) (reward_ratio self))
+      (if_equal ((9 + o - 9) % 3) 1 (share t ((9 + o - 9) / 3) (reward_ratio other)) (share t ((9 + o - 9) / 3) event_fee)) ≡ z →
       event_field t (9 + o) ≡ z
   unfolding event_field
   past_spares z e = past _ _ _ _ _ (omega arith) (past _ _ _ _ _ (omega arith) (past _ _ _ _ _ (omega arith) e))
@@ -68,10 +72,12 @@ event_self : (t s : ℕ) → event_field t (9 + s * 3) ≡ share t s (reward_rat
 event_self t s = past_spares t (s * 3) _ (eq_hit _ _ _ _ _ (omega arith) (ap (λ q. share t q (reward_ratio self)) (omega arith)))
 
 event_other : (t s : ℕ) → event_field t (9 + (s * 3 + 1)) ≡ share t s (reward_ratio other)
-event_other t s = past_spares t (s * 3 + 1) _ (eq_skip _ _ _ _ _ (λ q. omega arith) (eq_hit _ _ _ _ _ (omega arith) (ap (λ q. share t q (reward_ratio other)) (omega arith))))
+event_other t s =
+    past_spares t (s * 3 + 1) _ (eq_skip _ _ _ _ _ (λ q. omega arith) (eq_hit _ _ _ _ _ (omega arith) (ap (λ q. share t q (reward_ratio other)) (omega arith))))
 
 event_fees : (t s : ℕ) → event_field t (9 + (s * 3 + 2)) ≡ share t s event_fee
-event_fees t s = past_spares t (s * 3 + 2) _ (eq_skip _ _ _ _ _ (λ q. omega arith) (eq_skip _ _ _ _ _ (λ q. omega arith) (ap (λ q. share t q event_fee) (omega arith))))
+event_fees t s =
+    past_spares t (s * 3 + 2) _ (eq_skip _ _ _ _ _ (λ q. omega arith) (eq_skip _ _ _ _ _ (λ q. omega arith) (ap (λ q. share t q event_fee) (omega arith))))
 
 module _ (P E : ℕ) where
   -- places in the ring
@@ -92,14 +98,17 @@ module _ (P E : ℕ) where
       past _ _ _ _ _ (omega arith) (past _ _ _ _ _ (omega arith) (past _ _ _ _ _ (omega arith) (past _ _ _ _ _ (omega arith)
       (past _ _ _ _ _ (omega arith) (past _ _ _ _ _ (omega arith) (past _ _ _ _ _ (omega arith) (here _ _ _ _ _ (omega arith) refl)))))))
   field_of_addr (seat s (publishers c)) r =
-      past _ _ _ _ _ (omega arith) (past _ _ _ _ _ (omega arith) (here _ _ _ _ _ (omega arith) (ap₂ (λ q z. seat q (publishers z)) (omega arith) (omega arith))))
+      past _ _ _ _ _ (omega arith) (past _ _ _ _ _ (omega arith)
+      (here _ _ _ _ _ (omega arith) (ap₂ (λ q z. seat q (publishers z)) (omega arith) (omega arith))))
   field_of_addr (seat s (total_delegation other)) r =
-      past _ _ _ _ _ (omega arith) (past _ _ _ _ _ (omega arith) (past _ _ _ _ _ (omega arith) (here _ _ _ _ _ (omega arith) (side_total other s _ (omega arith)))))
+      past _ _ _ _ _ (omega arith) (past _ _ _ _ _ (omega arith)
+      (past _ _ _ _ _ (omega arith) (here _ _ _ _ _ (omega arith) (side_total other s _ (omega arith)))))
   field_of_addr (seat s (total_delegation self)) r =
       past _ _ _ _ _ (omega arith) (past _ _ _ _ _ (omega arith) (past _ _ _ _ _ (omega arith) (past _ _ _ _ _ (omega arith)
       (here _ _ _ _ _ (omega arith) (side_total self s _ (omega arith))))))
   field_of_addr (seat s (delta_delegation other)) r =
-      past _ _ _ _ _ (omega arith) (past _ _ _ _ _ (omega arith) (past _ _ _ _ _ (omega arith) (here _ _ _ _ _ (omega arith) (side_change_law other s _ (omega arith)))))
+      past _ _ _ _ _ (omega arith) (past _ _ _ _ _ (omega arith)
+      (past _ _ _ _ _ (omega arith) (here _ _ _ _ _ (omega arith) (side_change_law other s _ (omega arith)))))
   field_of_addr (seat s (delta_delegation self)) r =
       past _ _ _ _ _ (omega arith) (past _ _ _ _ _ (omega arith) (past _ _ _ _ _ (omega arith) (past _ _ _ _ _ (omega arith)
       (here _ _ _ _ _ (omega arith) (side_change_law self s _ (omega arith))))))
@@ -114,10 +123,14 @@ module _ (P E : ℕ) where
   field_of_addr (share t s event_fee) r = at_event t (9 + (s * 3 + 2)) r.0 (omega arith) ∙ event_fees t s
   field_of_addr (seat s num_slash_events) r =
       past _ _ _ _ _ (omega arith) (past _ _ _ _ _ (omega arith) (past _ _ _ _ _ (omega arith) (past _ _ _ _ _ (omega arith)
-      (past _ _ _ _ _ (omega arith) (past _ _ _ _ _ (omega arith) (past _ _ _ _ _ (omega arith) (past _ _ _ _ _ (omega arith) (here _ _ _ _ _ (omega arith) (ap (λ q. seat q num_slash_events) (omega arith))))))))))
+      (past _ _ _ _ _ (omega arith)
+      (past _ _ _ _ _ (omega arith)
+      (past _ _ _ _ _ (omega arith) (past _ _ _ _ _ (omega arith) (here _ _ _ _ _ (omega arith) (ap (λ q. seat q num_slash_events) (omega arith))))))))))
   field_of_addr (seat s delegation_fees) r =
       past _ _ _ _ _ (omega arith) (past _ _ _ _ _ (omega arith) (past _ _ _ _ _ (omega arith) (past _ _ _ _ _ (omega arith)
-      (past _ _ _ _ _ (omega arith) (past _ _ _ _ _ (omega arith) (past _ _ _ _ _ (omega arith) (past _ _ _ _ _ (omega arith) (past _ _ _ _ _ (omega arith) (ap (λ q. seat q delegation_fees) (omega arith))))))))))
+      (past _ _ _ _ _ (omega arith)
+      (past _ _ _ _ _ (omega arith)
+      (past _ _ _ _ _ (omega arith) (past _ _ _ _ _ (omega arith) (past _ _ _ _ _ (omega arith) (ap (λ q. seat q delegation_fees) (omega arith))))))))))
 
   -- words with different names do not share a place
   pub addr_apart : (f g : Field) → InRange P E f → InRange P E g → addr P E f ≡ addr P E g → f ≡ g

@@ -8,7 +8,9 @@ use native.Mathlib.Nat.{mul-le-mul_right}
 use native.Mathlib.Omega.{arith}
 use lib.ListN.{length, get_or, take, drop}
 use lib.Seq.{get_or-take, get_or-drop}
-use Rattle.image.specs.Layout.{self, other, last_updated_epoch, claimable_rewards, num_events, publishers, total_delegation, delta_delegation, publisher_stake_accounts, num_slash_events, delegation_fees, Slot, event_epoch, event_y, extra_space, Share, reward_ratio, event_fee, Field, head, seat, slot, share, event_size, event_at, size, addr, InSlot, InRange, read}
+use Rattle.image.specs.Layout.{self, other, last_updated_epoch, claimable_rewards, num_events, publishers, total_delegation, delta_delegation}
+use Rattle.image.specs.Layout.{publisher_stake_accounts, num_slash_events, delegation_fees, Slot, event_epoch, event_y, extra_space, Share}
+use Rattle.image.specs.Layout.{reward_ratio, event_fee, Field, head, seat, slot, share, event_size, event_at, size, addr, InSlot, InRange, read}
 use Rattle.image.proofs.ListLaws.{lt_or_le, put_before, put_in, put_after}
 use Rattle.image.proofs.PlaceLaws.{slot_fits_law}
 
@@ -106,10 +108,13 @@ module _ (P E t : ℕ) (in_ring : t < E) where
   unfolding read
   lent_slot img x r =
       let a = slot_at_law P E t x r in
-      get_or-take (event_size P) (drop (event_at P t) img) (slot_at x) 0 a.1 ∙ get_or-drop (event_at P t) img (slot_at x) 0 ∙ ap (λ (i : ℕ). get_or img i 0) (sym a.0)
+      get_or-take (event_size P) (drop (event_at P t) img) (slot_at x) 0 a.1 ∙ get_or-drop (event_at P t) img (slot_at x) 0
+      ∙ ap (λ (i : ℕ). get_or img i 0) (sym a.0)
 
-  pub lent_share : (img : List ℕ) (s : ℕ) (x : Share) → s < P → get_or (take (event_size P) (drop (event_at P t) img)) (share_at s x) 0 ≡ read P E img (share t s x)
+  pub lent_share : (img : List ℕ) (s : ℕ) (x : Share) → s < P
+      → get_or (take (event_size P) (drop (event_at P t) img)) (share_at s x) 0 ≡ read P E img (share t s x)
   unfolding read
   lent_share img s x l =
       let a = share_at_law P E t s x l in
-      get_or-take (event_size P) (drop (event_at P t) img) (share_at s x) 0 a.1 ∙ get_or-drop (event_at P t) img (share_at s x) 0 ∙ ap (λ (i : ℕ). get_or img i 0) (sym a.0)
+      get_or-take (event_size P) (drop (event_at P t) img) (share_at s x) 0 a.1 ∙ get_or-drop (event_at P t) img (share_at s x) 0
+      ∙ ap (λ (i : ℕ). get_or img i 0) (sym a.0)

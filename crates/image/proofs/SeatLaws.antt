@@ -1,11 +1,10 @@
 -- Refusal 1, the word at a place, and the lookups. Assumes nothing.
 use Prim.Native.Nat.{ℕ, ◌≤◌, ◌<◌}
-use mathlib.Core.Path.{◌≡◌, refl, ap}
+use mathlib.Core.Path.{◌≡◌}
 use mathlib.Core.Bool.{true, false}
 use mathlib.Core.List.{List}
 use native.Mathlib.Omega.{arith}
 use Rattle.std.proofs.lemmas.Bool.Decides.{nat_tests}
-use lib.ListN.{get_or}
 use Rattle.std.specs.Prelude.{Option, Some, None, MatchOption, IfSome}
 use Rattle.std.specs.Option.{unwrap_or}
 use Rattle.types.specs.Base.{half, accepted}
@@ -30,19 +29,7 @@ module _ (P E : ℕ) (img : List ℕ) where
   unfolding checked_image
   checked_says h = (checked_sized h, grind (arith, nat_tests))
 
--- ---- the words of a seat, as they are read from their places
-
-module _ (P E : ℕ) (img : List ℕ) where
-  -- the word at a place is the word with its name
-  pub read_at : (f : Field) (at : ℕ) → at ≡ addr P E f → get_or img at 0 ≡ read P E img f
-  unfolding read
-  read_at f at q = ap (λ (i : ℕ). get_or img i 0) q
-
 -- ---- seats
-
-pub seat_empty : (w : Words) (s : ℕ) → empty_seat w s ≡ same_key (publisher_at w s) zero_key
-unfolding empty_seat
-seat_empty w s = refl
 
 module _ (P : ℕ) (w : Words) where
   pub seats_le : seats_of P w ≤ P
@@ -54,7 +41,8 @@ module _ (P : ℕ) (w : Words) where
   module _ (k : Key) where
     -- what `find` over the seats tells
     pub seat_found : (r : Option ℕ)
-        → MatchOption r ((s : ℕ) → 0 ≤ s → s < P → same_key (publisher_at w s) k ≡ false) (λ i. (0 ≤ i) × (i < P) × (same_key (publisher_at w i) k ≡ true) × ((s : ℕ) → 0 ≤ s → s < i → same_key (publisher_at w s) k ≡ false))
+        → MatchOption r ((s : ℕ) → 0 ≤ s → s < P → same_key (publisher_at w s) k ≡ false)
+        (λ i. (0 ≤ i) × (i < P) × (same_key (publisher_at w i) k ≡ true) × ((s : ℕ) → 0 ≤ s → s < i → same_key (publisher_at w s) k ≡ false))
         → (unwrap_or r P ≡ first_seat P w k) × IfSome r (λ i. i < P)
     unfolding first_seat
     seat_found None h = (first_none P (λ s. same_key (publisher_at w s) k) (record { none = λ s l. h s (omega arith) l }), tt)

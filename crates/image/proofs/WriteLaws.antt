@@ -15,7 +15,9 @@ use Rattle.std.specs.Prelude.{if◌then◌else◌}
 use Rattle.types.proofs.Below.{and_right}
 use Rattle.positions.specs.declared.Key.{Key}
 use Rattle.delegation.specs.declared.DelegationState.{DelegationState}
-use Rattle.image.specs.Layout.{Whose, self, other, Head, last_updated_epoch, claimable_rewards, num_events, publishers, total_delegation, delta_delegation, publisher_stake_accounts, num_slash_events, delegation_fees, Field, head, seat, slot, share, Words, size, addr, InRange, read, image}
+use Rattle.image.specs.Layout.{Whose, self, other, Head, last_updated_epoch, claimable_rewards, num_events, publishers}
+use Rattle.image.specs.Layout.{total_delegation, delta_delegation, publisher_stake_accounts, num_slash_events}
+use Rattle.image.specs.Layout.{delegation_fees, Field, head, seat, slot, share, Words, size, addr, InRange, read, image}
 use Rattle.image.specs.Seats.{word_of, keyed, with_publisher, same_side, with_side, same_head, with_head}
 use Rattle.image.proofs.LayoutLaws.{addr_lt, addr_apart}
 use Rattle.image.proofs.HoldsLaws.{stays}
@@ -97,7 +99,8 @@ module _ (P E s : ℕ) (img : List ℕ) (long : length img ≡ size P E) (in_sea
     pub key_written : at ≡ 2 + s * 4 → keyed img at k ≡ image P E (with_publisher w0 s k)
     unfolding with_publisher stored
     key_written q =
-        stored_is P E (λ c. seat s (publishers c)) (word_of k) img at 4 (publishers_at q) long (with_publisher w0 s k) (λ c l. rw (eq-eqb s s refl)) else_publisher
+        stored_is P E (λ c. seat s (publishers c)) (word_of k) img at 4 (publishers_at q) long (with_publisher w0 s k)
+        (λ c l. rw (eq-eqb s s refl)) else_publisher
 
   -- `at` is where the side's total stands, its change behind it
   module _ (d : Whose) (v : DelegationState) (at : ℕ) where
@@ -146,7 +149,8 @@ module _ (P E s : ℕ) (img : List ℕ) (long : length img ≡ size P E) (in_sea
     else_side (slot t x) r n = refl
     else_side (share t q x) r n = refl
 
-    pub side_written : at ≡ addr P E (seat s (total_delegation d)) → set (set img at v.total_delegation.0) (at + 1) v.delta_delegation ≡ image P E (with_side w0 s d v)
+    pub side_written : at ≡ addr P E (seat s (total_delegation d))
+        → set (set img at v.total_delegation.0) (at + 1) v.delta_delegation ≡ image P E (with_side w0 s d v)
     unfolding stored
     side_written q = stored_is P E side_word value img at 2 (side_at q) long (with_side w0 s d v) is_written else_side
 

@@ -5,7 +5,8 @@ use Rattle.positions.specs.declared.Key.{Key}
 use Rattle.positions.specs.Key.{same_key}
 use Rattle.delegation.specs.declared.DelegationState.{DelegationState}
 use Rattle.delegation.specs.Side.{Side}
-use Rattle.image.specs.Layout.{Whose, self, other, publishers, total_delegation, delta_delegation, publisher_stake_accounts, num_slash_events, delegation_fees, head, seat, slot, share, Words, read, image}
+use Rattle.image.specs.Layout.{Whose, self, other, publishers, total_delegation, delta_delegation, publisher_stake_accounts}
+use Rattle.image.specs.Layout.{num_slash_events, delegation_fees, head, seat, slot, share, Words, read, image}
 use Rattle.image.specs.Seats.{stake_account_at, word_of, with_side}
 
 -- ---- whose stake it is

@@ -110,7 +110,8 @@ side_field d j = if_equal (j % 2) 0 (seat (j / 2) (total_delegation d)) (seat (j
 
 unfoldable pub event_field : ℕ → ℕ → Field
 event_field t o = if_below o 1 (slot t event_epoch) (if_below o 2 (slot t event_y) (if_below o 9 (slot t (extra_space (o - 2)))
-    (if_equal ((o - 9) % 3) 0 (share t ((o - 9) / 3) (reward_ratio self)) (if_equal ((o - 9) % 3) 1 (share t ((o - 9) / 3) (reward_ratio other)) (share t ((o - 9) / 3) event_fee)))))
+    (if_equal ((o - 9) % 3) 0 (share t ((o - 9) / 3) (reward_ratio self))
+    (if_equal ((o - 9) % 3) 1 (share t ((o - 9) / 3) (reward_ratio other)) (share t ((o - 9) / 3) event_fee)))))
 
 unfoldable pub field_of : ℕ → ℕ → ℕ → Field
 field_of P E i =
@@ -122,7 +123,8 @@ field_of P E i =
     if_below i (2 + 12 * P) (seat ((i - (2 + 8 * P)) / 4) (publisher_stake_accounts ((i - (2 + 8 * P)) % 4))) (
     if_below i (num_events_at P E) (event_field ((i - events_at P) / event_size P) ((i - events_at P) % event_size P)) (
     if_below i (num_events_at P E + 1) (head num_events) (
-    if_below i (num_events_at P E + 1 + P) (seat (i - (num_events_at P E + 1)) num_slash_events) (seat (i - (num_events_at P E + 1 + P)) delegation_fees)))))))))
+    if_below i (num_events_at P E + 1 + P) (seat (i - (num_events_at P E + 1)) num_slash_events)
+    (seat (i - (num_events_at P E + 1 + P)) delegation_fees)))))))))
 
 -- the word with this name
 unfoldable pub read : ℕ → ℕ → List ℕ → Words

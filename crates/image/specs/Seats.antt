@@ -5,7 +5,8 @@ use Rattle.types.specs.Refusals.{invalid_publisher, publisher_not_found}
 use Rattle.positions.specs.declared.Key.{Key}
 use Rattle.positions.specs.Key.{same_key}
 use Rattle.delegation.specs.declared.DelegationState.{DelegationState}
-use Rattle.image.specs.Layout.{Whose, self, other, Head, last_updated_epoch, claimable_rewards, num_events, publishers, total_delegation, delta_delegation, publisher_stake_accounts, num_slash_events, delegation_fees, reward_ratio, event_fee, head, seat, slot, share, Words, size, read}
+use Rattle.image.specs.Layout.{Whose, self, other, Head, last_updated_epoch, claimable_rewards, num_events, publishers, total_delegation, delta_delegation}
+use Rattle.image.specs.Layout.{publisher_stake_accounts, num_slash_events, delegation_fees, reward_ratio, event_fee, head, seat, slot, share, Words, size, read}
 
 -- ---- refusal 1
 

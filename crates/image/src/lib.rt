@@ -17,7 +17,7 @@ pub const MAX_PUBLISHERS: usize = 1024;
 
 pub const MAX_EVENTS: usize = 52;
 
-// Where slot t's event begins.
+// Where slot t's event begins. It takes P alone, since a pool that is read, one that is written and `size`, which has no pool, ask it.
 pub fn event_at(p: usize, t: usize) -> usize
     requires { (p ≤ 1024) × (t ≤ 52) }
     ensures { result ≡ event_at p t }
@@ -33,7 +33,7 @@ pub fn num_events_at(p: usize, e: usize) -> usize
     event_at(p, e)
 }
 
-// The words of a pool of p seats and e events, 0 where there is no such pool.
+// The words of a pool of p seats and e events. Where there is no such pool it is 0, as many as are laid out then: of an `Option` 0 would be made.
 #[tactic(auto, using(crate::proofs::PlaceLaws::slot_small), unfolding(crate::specs::Seats::size_of))]
 pub fn size(p: usize, e: usize) -> usize
     ensures is { result ≡ size_of p e }
@@ -45,7 +45,7 @@ pub fn size(p: usize, e: usize) -> usize
     num_events_at(p, e) + 1 + 2 * p
 }
 
-// P and E are in range, and the image has the words of such a pool.
+// P and E are in range, and the image has the words of such a pool. It is asked before there is a `PoolData`, as `checked` is.
 #[tactic(auto, unfolding(crate::specs::Seats::size_of, crate::specs::Seats::sized_image))]
 pub fn sized(pool: &[u64], p: usize, e: usize) -> bool
     ensures { result ≡ sized_image p e pool.now }

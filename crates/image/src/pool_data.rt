@@ -5,7 +5,7 @@ ghost use Rattle.image.specs.Seats.{Sized, checked_image};
 use types::refusals::Refusal;
 
 // A pool that is read.
-#[derive(Clone, Copy)]
+#[derive(Clone, Copy, Debug, PartialEq, Eq)]
 pub struct PoolData<'a> {
     pub words: &'a [u64],
     // How many seats there are, and how many events the ring keeps.
@@ -14,8 +14,8 @@ pub struct PoolData<'a> {
     pub ghost sized: { Sized words.now p e },
 }
 
-// A pool that is written.
-#[derive(Drop)]
+// A pool that is written. It has no `==`, since a `&mut` has none, and no copy.
+#[derive(Debug, Drop)]
 pub struct PoolDataMut<'a> {
     pub words: &'a mut [u64],
     pub p: usize,

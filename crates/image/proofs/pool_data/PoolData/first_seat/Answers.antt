@@ -11,8 +11,9 @@ use Rattle.image.proofs.pool_data.PoolData.first_seat.Goals as goal
 abbrev has : PoolData → Key → Bool → ℕ → Type 0
 has pool key answer s = same_key (publisher_at (words_of pool) s) key ≡ answer
 
-pub returns : goal.returns
+pub returns-clause-first : goal.returns-clause-first
 unfolding same_key
-returns c =
-    let f = seat_found _ _ _ _ (first_from_Range _ _ _ _ (has c.args.self c.args.key true) (has c.args.self c.args.key false) c.find.ensures.ran (λ x q h. search rules) (λ x q h. search rules)) in
-    record { first = f.0; found = f.1 }
+returns-clause-first c =
+    let yes = has c.args.self c.args.key true in
+    let no = has c.args.self c.args.key false in
+    (seat_found _ _ _ _ (first_from_Range _ _ _ _ yes no c.find.ensures.ran (λ x q h. search rules) (λ x q h. search rules))).0
