@@ -1,11 +1,13 @@
 -- What the passed epochs' events leave, in closed form: a slot has the newest event that went to it, by the slot's age. Then the ring of a pool
 -- that has grown from a fresh one, which an advance keeps. Assumes nothing.
-use Rattle.std.proofs.Common.{◌≡◌, ℕ, zero, suc, ◌+◌, ◌-◌, ◌*◌, ◌%◌, ◌<◌, ◌≤◌, Bool, true, false, eqb, ltb, ◌⊎◌, List, sym, refl, ap, ◌∙◌, ap₂, inl, inr, ⊎_elim, mod-lt, mod-eq_of_lt, arith, le-ltb, eq-eqb, ne_eqb}
+use Rattle.std.proofs.Common.{◌≡◌, ℕ, zero, suc, ◌+◌, ◌-◌, ◌*◌, ◌%◌, ◌<◌, ◌≤◌, Bool, true, false, eqb, ltb, ◌⊎◌, List, sym}
+use Rattle.std.proofs.Common.{refl, ap, ◌∙◌, ap₂, inl, inr, ⊎_elim, mod-lt, mod-eq_of_lt, arith, le-ltb, eq-eqb, ne_eqb}
 use native.Mathlib.Decide.{ℕ_discrete}
 use lib.Arith.{digits_mod}
 use Rattle.std.specs.Prelude.{if◌then◌else◌}
 use Rattle.types.proofs.Below.{and_right}
-use Rattle.image.specs.Layout.{Head, last_updated_epoch, num_events, Seat, event_epoch, event_y, extra_space, Share, Field, head, seat, slot, share, Words, InRange}
+use Rattle.image.specs.Layout.{Head, last_updated_epoch, num_events, Seat, event_epoch, event_y}
+use Rattle.image.specs.Layout.{extra_space, Share, Field, head, seat, slot, share, Words, InRange}
 use Rattle.image.specs.Seats.{fresh_words, seats_of}
 use Rattle.image.proofs.ListLaws.{lt_or_le}
 use Rattle.image.proofs.AgeLaws.{age, age_zero, age_suc}
@@ -89,7 +91,8 @@ module _ (E : ℕ) (w : Words) (cap : ℕ → ℕ) (seats y k t : ℕ) where
   written_else (share u s x) found i ne = rw (ne_eqb u ((count w + k) % E) (λ e. ne (sym i ∙ e)))
 
 -- an event written over another leaves nothing of it
-word_over : (w : Words) (cap : ℕ → ℕ) (seats y k j : ℕ) (f : Field) (found : ℕ) → event_word w cap seats y k f (event_word w cap seats y j f found) ≡ event_word w cap seats y k f found
+word_over : (w : Words) (cap : ℕ → ℕ) (seats y k j : ℕ) (f : Field) (found : ℕ)
+    → event_word w cap seats y k f (event_word w cap seats y j f found) ≡ event_word w cap seats y k f found
 word_over w cap seats y k j (head h) found = refl
 word_over w cap seats y k j (seat s x) found = refl
 word_over w cap seats y k j (slot t event_epoch) found = refl
@@ -143,7 +146,8 @@ module _ (E : ℕ) (w : Words) (cap : ℕ → ℕ) (seats y : ℕ) where
         go (no ne) r = written_else E w cap seats y k t f _ stands ne ∙ r (omega (arith, age_else E (count w) t pos lt k ne))
 
     -- a slot to which one went has the newest one's words
-    pub events_newest : (k : ℕ) → age E (count w + k) t < k → events_after E w cap seats y k f ≡ event_word w cap seats y (k - 1 - age E (count w + k) t) f (w f)
+    pub events_newest : (k : ℕ) → age E (count w + k) t < k
+        → events_after E w cap seats y k f ≡ event_word w cap seats y (k - 1 - age E (count w + k) t) f (w f)
     unfolding events_after
     events_newest zero h = absurd (omega arith)
     events_newest (suc k) h = go (ℕ_discrete t ((count w + k) % E)) (lt_or_le (age E (count w + k) t) k) (events_newest k) (events_found k)
@@ -159,7 +163,8 @@ module _ (E : ℕ) (w : Words) (cap : ℕ → ℕ) (seats y : ℕ) where
             written_here E w cap seats y k t f _ stands e ∙ ap (event_word w cap seats y k f) (newest l) ∙ word_over w cap seats y k _ f (w f)
             ∙ at k _ (omega (arith, age_here E (count w) t pos lt k e))
         go (yes e) (inr l) newest found =
-            written_here E w cap seats y k t f _ stands e ∙ ap (event_word w cap seats y k f) (found l) ∙ at k _ (omega (arith, age_here E (count w) t pos lt k e))
+            written_here E w cap seats y k t f _ stands e ∙ ap (event_word w cap seats y k f) (found l)
+            ∙ at k _ (omega (arith, age_here E (count w) t pos lt k e))
         go (no ne) (inl l) newest found =
             written_else E w cap seats y k t f _ stands ne ∙ newest l ∙ at _ _ (omega (arith, age_else E (count w) t pos lt k ne))
         go (no ne) (inr l) newest found = absurd (omega (arith, age_else E (count w) t pos lt k ne))
@@ -221,7 +226,8 @@ module _ (P E first : ℕ) (w : Words) (g : Grown P E first w) where
             (λ l. let a = age_older E (count w) t pos lt passed l in older t lt l (slot t event_epoch) refl ∙ g.dated t lt (omega arith) ∙ omega arith)
             (lt_or_le (age E (count w + passed) t) passed)
 
-        unwritten : (t : ℕ) → t < E → count w + passed ≤ age E (count w + passed) t → (f : Field) → InRange P E f → StandsIn t f → advanced_words P E w m epoch y set_aside f ≡ 0
+        unwritten : (t : ℕ) → t < E → count w + passed ≤ age E (count w + passed) t → (f : Field) → InRange P E f → StandsIn t f
+            → advanced_words P E w m epoch y set_aside f ≡ 0
         unwritten t lt h f r i =
             let l : passed ≤ age E (count w + passed) t = omega arith in
             let a = age_older E (count w) t pos lt passed l in

@@ -1,5 +1,6 @@
 -- Matching the rows with the seats, seat by seat, and the counts of the rows. Assumes nothing.
-use Rattle.std.proofs.Common.{◌≡◌, ℕ, zero, suc, ◌+◌, ◌-◌, ◌<◌, ◌≤◌, Bool, true, false, ◌||◌, eqb, ltb, List, length, set, replicate, sym, refl, ap, ◌∙◌, subst, add-zero, add-suc, add-one, arith, length-set, eq-eqb, ne_eqb}
+use Rattle.std.proofs.Common.{◌≡◌, ℕ, zero, suc, ◌+◌, ◌-◌, ◌<◌, ◌≤◌, Bool, true, false, ◌||◌, eqb, ltb, List, length, set}
+use Rattle.std.proofs.Common.{replicate, sym, refl, ap, ◌∙◌, subst, add-zero, add-suc, add-one, arith, length-set, eq-eqb, ne_eqb}
 use native.Mathlib.Decide.{ℕ_discrete}
 use Rattle.std.specs.Prelude.{Option, Some, None, if◌then◌else◌}
 use Rattle.types.specs.Base.{any_below, count_below}
@@ -65,7 +66,8 @@ module _ (w : Words) (m : List ℕ) (s : ℕ) (caps words : List ℕ) (h : Match
 
     miss : (j : ℕ) → (key_at m j ≡ k → ⊥) → matched_row w m (s + 1) j ≡ matched_row w m s j
     unfolding matched_row any_below
-    miss j ne = rw (add-one s, ne_eqb (key_number w s) (key_at m j) (λ e. ne (sym e ∙ sym ek))) (or_false (any_below s (λ i. eqb (key_number w i) (key_at m j))))
+    miss j ne =
+        rw (add-one s, ne_eqb (key_number w s) (key_at m j) (λ e. ne (sym e ∙ sym ek))) (or_false (any_below s (λ i. eqb (key_number w i) (key_at m j))))
 
     marks_more : (r : Option ℕ) → Sought m k 0 (rows_of m) r → (j : ℕ) → j < rows_of m → marked (with_found words r) j ≡ matched_row w m (s + 1) j
     marks_more (Some i) so j lj = go (ℕ_discrete j i)

@@ -1,5 +1,6 @@
 -- What a seat comes to, one law for each way out of the code, and the sums and lists, seat by seat. Assumes nothing.
-use Rattle.std.proofs.Common.{◌≡◌, ℕ, ◌+◌, ◌*◌, ◌<◌, ◌≤◌, Bool, true, false, List, length, get_or, set, sym, refl, ap, ◌∙◌, subst, arith, length-set, get_or-set_other, get_or-set_same}
+use Rattle.std.proofs.Common.{◌≡◌, ℕ, ◌+◌, ◌*◌, ◌<◌, ◌≤◌, Bool, true, false, List, length, get_or, set, sym}
+use Rattle.std.proofs.Common.{refl, ap, ◌∙◌, subst, arith, length-set, get_or-set_other, get_or-set_same}
 use native.Mathlib.Decide.{ℕ_discrete}
 use Rattle.std.specs.Prelude.{if◌then◌else◌}
 use Rattle.types.specs.Base.{Outcome, refused, accepted, sum_below, all_below}
@@ -19,7 +20,8 @@ use Rattle.advance_plan.specs.Advance.{seat_rolls, eligible_at, ratio_at, eligib
 use Rattle.advance_plan.specs.Stake.{seat_eligible, seat_in, seat_epochs, sums_of, with_shares, Shared, Tabled}
 
 -- a list filled up to n, one more
-pub list_more : (f : ℕ → ℕ) (l : List ℕ) (n v : ℕ) → ((i : ℕ) → i < n → get_or l i 0 ≡ f i) → n < length l → v ≡ f n → (i : ℕ) → i < n + 1 → get_or (set l n v) i 0 ≡ f i
+pub list_more : (f : ℕ → ℕ) (l : List ℕ) (n v : ℕ) → ((i : ℕ) → i < n → get_or l i 0 ≡ f i) → n < length l → v ≡ f n → (i : ℕ) → i < n + 1
+    → get_or (set l n v) i 0 ≡ f i
 list_more f l n v h r e i lt = go (ℕ_discrete i n)
   where
     go : Dec (i ≡ n) → get_or (set l n v) i 0 ≡ f i
@@ -48,7 +50,8 @@ roll_refused : (total change n : ℕ) → refused n ≡ roll_of total change →
 unfolding roll_of
 roll_refused total change n e = go (roll_fits total change) e
   where
-    go : (b : Bool) → ◌≡◌ {A = Outcome Side} (refused n) (if b then accepted (record { total = rolled total change; change = 0 }) else refused does_not_fit) → (b ≡ false) × (n ≡ does_not_fit)
+    go : (b : Bool) → ◌≡◌ {A = Outcome Side} (refused n) (if b then accepted (record { total = rolled total change; change = 0 }) else refused does_not_fit)
+        → (b ≡ false) × (n ≡ does_not_fit)
     go true h = let z : ◌≡◌ {A = ℕ} 0 1 = cc in absurd (omega arith)
     go false h = (refl, cc)
 
@@ -56,7 +59,8 @@ roll_accepted : (total change : ℕ) (x : Side) → accepted x ≡ roll_of total
 unfolding roll_of
 roll_accepted total change x e = go (roll_fits total change) e
   where
-    go : (b : Bool) → accepted x ≡ (if b then accepted (record { total = rolled total change; change = 0 }) else refused does_not_fit) → (b ≡ true) × (x.total ≡ rolled total change)
+    go : (b : Bool) → accepted x ≡ (if b then accepted (record { total = rolled total change; change = 0 }) else refused does_not_fit)
+        → (b ≡ true) × (x.total ≡ rolled total change)
     go true h = let z : x ≡ record { total = rolled total change; change = 0 } = cc in (refl, ap (λ (y : Side). y.total) z)
     go false h = let z : ◌≡◌ {A = ℕ} 0 1 = cc in absurd (omega arith)
 
@@ -91,7 +95,9 @@ module _ (w : Words) (cap s : ℕ) where
   unfolding seat_epochs
   seat_not n e = go (seat_rolls w s) e
     where
-      go : (b : Bool) → ◌≡◌ {A = Outcome SeatEpochs} (refused n) (if b then accepted (record { first = seat_in w cap 0 s; later = seat_in w cap 1 s }) else refused does_not_fit) → (b ≡ false) × (n ≡ does_not_fit)
+      go : (b : Bool)
+          → ◌≡◌ {A = Outcome SeatEpochs} (refused n) (if b then accepted
+          (record { first = seat_in w cap 0 s; later = seat_in w cap 1 s }) else refused does_not_fit) → (b ≡ false) × (n ≡ does_not_fit)
       go true h = let z : ◌≡◌ {A = ℕ} 0 1 = cc in absurd (omega arith)
       go false h = (refl, cc)
 
@@ -128,7 +134,8 @@ summed_none w cap t = record {
 
 -- a seat's fields in the k-th passed epoch
 seat_fields : (w : Words) (cap : ℕ → ℕ) (k s : ℕ) (x : SeatEligible) → x ≡ seat_in w (cap s) k s
-    → (x.total_eligible_delegation.0 ≡ eligible_in w cap k s) × (x.self_reward_ratio.0 ≡ ratio_in w cap k s self) × (x.other_reward_ratio.0 ≡ ratio_in w cap k s other)
+    → (x.total_eligible_delegation.0 ≡ eligible_in w cap k s) × (x.self_reward_ratio.0 ≡ ratio_in w cap k s self) ×
+    (x.other_reward_ratio.0 ≡ ratio_in w cap k s other)
 unfolding seat_eligible eligible_in ratio_in
 seat_fields w cap k s x e = (
   ap (λ (v : SeatEligible). v.total_eligible_delegation.0) e,
@@ -197,7 +204,8 @@ module _ (l : List ℕ) (s : ℕ) (x : SeatEligible) (fee : ℕ) (room : s * 3 +
       fees q lq (yes e) = rw e (here_fee ∙ ef)
       fees q lq (no ne) = front (q * 3 + 2) (omega arith) ∙ h.fee q (omega arith)
 
-pub summed_more : {P W : ℕ} (w : Words) (cap : ℕ → ℕ) (s : ℕ) (t u : SeatTable P W) (x y : ℕ) → Summed w cap s t x y → (r : SeatEpochs) → accepted r ≡ seat_epochs w (cap s) s
+pub summed_more : {P W : ℕ} (w : Words) (cap : ℕ → ℕ) (s : ℕ) (t u : SeatTable P W) (x y : ℕ) → Summed w cap s t x y → (r : SeatEpochs)
+    → accepted r ≡ seat_epochs w (cap s) s
     → (x' y' v : ℕ) → x' ≡ x + r.first.total_eligible_delegation.0 → y' ≡ y + r.later.total_eligible_delegation.0 → v ≡ w (seat s delegation_fees)
     → s * 3 + 3 ≤ length t.first_shares → s * 3 + 3 ≤ length t.later_shares
     → u.first_shares ≡ with_shares t.first_shares s r.first v → u.later_shares ≡ with_shares t.later_shares s r.later v
@@ -218,12 +226,18 @@ summed_more w cap s t u x y h r e x' y' v ex ey ev la lb qa qb =
 
 -- ---- the sums' answer
 
-pub sums_done : {P W : ℕ} (w : Words) (cap : ℕ → ℕ) (seats : ℕ) (t : SeatTable P W) (x y : ℕ) → Summed w cap seats t x y → accepted (record { first = x; later = y }) ≡ sums_of w cap seats
+pub sums_done : {P W : ℕ} (w : Words) (cap : ℕ → ℕ) (s seats : ℕ) (t : SeatTable P W) (x y : ℕ) → s ≡ seats → Summed w cap s t x y
+    → accepted (record { first = x; later = y }) ≡ sums_of w cap seats
 unfolding sums_of
-sums_done w cap seats t x y h = rw (h.rolls, h.first_sum, h.later_sum)
+sums_done w cap s seats t x y e h = rw (← e) (rw (h.rolls, h.first_sum, h.later_sum))
 
 pub sums_not : (w : Words) (cap : ℕ → ℕ) (seats s n : ℕ) → s < seats → refused n ≡ seat_epochs w (cap s) s → refused n ≡ sums_of w cap seats
 unfolding sums_of
 sums_not w cap seats s n l e =
     let h = seat_not w (cap s) s n e in
     rw (all_not (seat_rolls w) seats s l h.0, h.1)
+
+-- the ways out of a seat
+pub ruleset eligibles = (sides_fit, sides_eligible)
+
+pub ruleset seats_roll = (self_not, other_not)

@@ -8,7 +8,9 @@ use Rattle.publisher_caps.specs.Message.{time_of, negative_time, rows_of, key_at
 use Rattle.event.specs.Eligible.{self_eligible, other_eligible, self_ratio, other_ratio}
 use Rattle.event.specs.Adjust.{Adjustment, adjust_of}
 use Rattle.delegation.specs.Side.{rolled, roll_fits}
-use Rattle.image.specs.Layout.{Whose, self, other, last_updated_epoch, claimable_rewards, num_events, publishers, total_delegation, delta_delegation, publisher_stake_accounts, num_slash_events, delegation_fees, Slot, event_epoch, event_y, extra_space, Share, reward_ratio, event_fee, Field, head, seat, slot, share, Words}
+use Rattle.image.specs.Layout.{Whose, self, other, last_updated_epoch, claimable_rewards, num_events, publishers, total_delegation}
+use Rattle.image.specs.Layout.{delta_delegation, publisher_stake_accounts, num_slash_events, delegation_fees, Slot, event_epoch}
+use Rattle.image.specs.Layout.{event_y, extra_space, Share, reward_ratio, event_fee, Field, head, seat, slot, share, Words}
 use Rattle.image.specs.Seats.{publisher_at, seats_of}
 -- current_epoch, y, pool_reward_custody_balance, epoch_duration, is_verified
 use Rattle.advance_plan.specs.declared.Given.{Given}

@@ -50,6 +50,7 @@ fn adjust(
 
 // y' and the amount set aside, or refusals 7, 8, 13 for a negative time, 9, other 13, 14; each seat's cap, ratios and fee go to the table.
 // `every_rolled` is the forecast's reading: every passed epoch at the rolled totals.
+#[tactic(auto, using(crate::proofs::PlanLaws::plans, image::proofs::SeatLaws::seats_le))]
 pub fn plan<const P: usize, const W: usize>(
     pool: PoolData<'_>,
     caps: PublisherCaps<'_>,

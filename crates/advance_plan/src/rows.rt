@@ -22,7 +22,7 @@ pub struct RowCounts {
 
 // All keys are divided into equal parts, one fewer than there are entries. An entry is the first row of its part, or of a later one. Nothing is
 // proved of the entries: where one is wrong, a row is only found later.
-#[derive(Drop)]
+#[derive(Debug, PartialEq, Eq, Drop)]
 struct Index<const ENTRIES: usize> {
     first_rows: [u16; ENTRIES],
     ghost some: { 2 ≤ ENTRIES },
@@ -64,6 +64,7 @@ impl<const ENTRIES: usize> Index<ENTRIES> {
 }
 
 // The caps of the first seats, and the marks of the rows of their keys, found by an index of so many entries.
+#[tactic(auto, using(crate::proofs::RowLaws::matched_none))]
 fn match_by<const ENTRIES: usize, const P: usize, const W: usize>(
     pool: PoolData<'_>,
     caps: PublisherCaps<'_>,

@@ -34,6 +34,7 @@ pub struct EligibleSums {
     pub later: Wide,
 }
 
+#[tactic(auto, using(crate::proofs::StakeLaws::eligibles))]
 fn seat_eligible(self_total: Amount, other_total: Amount, cap: Amount) -> SeatEligible
     ensures { result ≡ seat_eligible cap.0 self_total.0 other_total.0 }
 {
@@ -47,6 +48,7 @@ fn seat_eligible(self_total: Amount, other_total: Amount, cap: Amount) -> SeatEl
 }
 
 // 13 where a side does not roll.
+#[tactic(auto, using(crate::proofs::StakeLaws::seats_roll))]
 fn eligible_at_seat(pool: PoolData<'_>, s: usize, cap: Amount) -> Result<SeatEpochs, Refusal>
     requires { s < pool.p }
     ensures { outcome_of result ≡ seat_epochs (words_of pool.entry) cap.0 s }

@@ -1,9 +1,8 @@
-use Rattle.std.proofs.Common.{◌≡◌, ℕ, ◌+◌, ◌*◌, ◌<◌, ◌≤◌, List, length, get_or, refl, ap, ◌∙◌, subst, arith, rules}
+use Rattle.std.proofs.Common.{◌≡◌, ℕ, ◌*◌, ◌<◌, ◌≤◌, List, length, get_or, refl, ap, ◌∙◌, arith, rules}
 use Rattle.std.proofs.lemmas.Result.{err_from_is_err_and}
-use Rattle.types.specs.Base.{accepted}
 use Rattle.types.specs.Wide.{wide_of}
 use Rattle.image.specs.Pool.{words_of}
-use Rattle.advance_plan.specs.Stake.{seat_epochs, sums_of, Tabled}
+use Rattle.advance_plan.specs.Stake.{seat_epochs}
 use Rattle.advance_plan.proofs.StakeLaws.{summed_none, summed_more, shares_length, sums_done, sums_not}
 use Rattle.advance_plan.proofs.stake.sum_eligible.Goals as goal
 
@@ -27,9 +26,6 @@ returns-in_err-seat-clause-sums g c =
     let e = ap (λ (l : List ℕ). seat_epochs w (get_or l at.s 0) at.s) at.invariant.caps in
     rw (p.1, p.2) (sums_not w (λ (s : ℕ). get_or old s 0) c.args.seats at.s _ c.loop-s-test.true (c.in_err-seat.ensures ∙ e))
 
-pub returns-in_err-seat-clause-caps : goal.returns-in_err-seat-clause-caps
-returns-in_err-seat-clause-caps g c = c.loop-s.invariant.caps
-
 pub loop-s-preserved : goal.loop-s-preserved
 loop-s-preserved g c =
     let at = c.loop-s in
@@ -37,8 +33,6 @@ loop-s-preserved g c =
     let old = c.args.table.now.caps in
     let e = ap (λ (l : List ℕ). seat_epochs w (get_or l at.s 0) at.s) at.invariant.caps in
     let seat = c.in_ok-seat.seat in
-    let first : (wide_of c.plus-first_sum.result ≡ wide_of at.first_sum + seat.first.total_eligible_delegation.0) × (c.plus-first_sum.result.hi ≤ at.first_sum.hi + 1) = c.plus-first_sum.ensures in
-    let later : (wide_of c.plus-later_sum.result ≡ wide_of at.later_sum + seat.later.total_eligible_delegation.0) × (c.plus-later_sum.result.hi ≤ at.later_sum.hi + 1) = c.plus-later_sum.ensures in
     let within : at.s < c.args.seats = c.loop-s-test.true in
     let room : c.args.pool.p ≤ g.row.P = c.requires.room in
     let seats : c.args.seats ≤ c.args.pool.p = c.requires.seats in
@@ -46,24 +40,16 @@ loop-s-preserved g c =
     let first_long : length at.table.first_shares ≡ g.row.W = at.invariant.first_long in
     let later_long : length at.table.later_shares ≡ g.row.W = at.invariant.later_long in
     record {
-      first_high = omega (arith, at.invariant.first_high);
-      later_high = omega (arith, at.invariant.later_high);
+      first_high = omega (arith, at.invariant.first_high, c.plus-first_sum.ensures.1);
+      later_high = omega (arith, at.invariant.later_high, c.plus-later_sum.ensures.1);
       first_long = shares_length _ _ _ _ _ c.set_shares.ensures ∙ first_long;
       later_long = shares_length _ _ _ _ _ c.set_shares-in-loop-s.ensures ∙ later_long;
       caps = at.invariant.caps;
-      summed = summed_more w (λ (s : ℕ). get_or old s 0) at.s at.table _ _ _ at.invariant.summed seat (c.in_ok-seat.ensures ∙ e) _ _ _ first.0 later.0
+      summed =
+          summed_more w (λ (s : ℕ). get_or old s 0) at.s at.table _ _ _ at.invariant.summed seat
+          (c.in_ok-seat.ensures ∙ e) _ _ _ c.plus-first_sum.ensures.0 c.plus-later_sum.ensures.0
           c.delegation_fee-fee.ensures (omega arith) (omega arith) c.set_shares.ensures c.set_shares-in-loop-s.ensures;
     }
 
-pub returns : goal.returns
-returns g c =
-    let at = c.loop-s in
-    let w = words_of c.args.pool in
-    let old = c.args.table.now.caps in
-    let q : at.s ≡ c.args.seats = omega arith in
-    record {
-      sums = subst (λ (n : ℕ). accepted (record { first = wide_of at.first_sum; later = wide_of at.later_sum }) ≡ sums_of w (λ (s : ℕ). get_or old s 0) n) q
-          (sums_done w (λ (s : ℕ). get_or old s 0) at.s at.table _ _ at.invariant.summed);
-      shares = subst (λ (n : ℕ). Tabled w (λ (s : ℕ). get_or old s 0) n at.table) q at.invariant.summed.table;
-      caps = at.invariant.caps;
-    }
+pub returns-clause-sums : goal.returns-clause-sums
+returns-clause-sums g c = let at = c.loop-s in sums_done _ _ _ _ at.table _ _ (omega arith) at.invariant.summed
