@@ -1,10 +1,12 @@
 -- The words of one event: what its writer leaves, in the event and in the pool, which has it back in its slot. Assumes nothing.
-use Rattle.std.proofs.Common.{◌≡◌, ℕ, ◌+◌, ◌-◌, ◌*◌, ◌%◌, ◌<◌, ◌≤◌, List, ◌++◌, length, get_or, set, take, drop, refl, sym, ap, ◌∙◌, ⊎_elim, arith, length-set, length-append, length-drop, get_or-set_same, get_or-set_other, eq-eqb, ne_eqb, lt-ltb, le-ltb}
+use Rattle.std.proofs.Common.{◌≡◌, ℕ, ◌+◌, ◌-◌, ◌*◌, ◌%◌, ◌<◌, ◌≤◌, List, ◌++◌, length, get_or, set, take, drop, refl, sym, ap, ◌∙◌, ⊎_elim}
+use Rattle.std.proofs.Common.{arith, length-set, length-append, length-drop, get_or-set_same, get_or-set_other, eq-eqb, ne_eqb, lt-ltb, le-ltb}
 use native.Mathlib.Nat.{add-sub_cancel_left}
 use native.Mathlib.Decide.{ℕ_discrete}
 use lib.Seq.{get_or-take, length-take-le}
 use borrow.Rule.Slice.PartMut.{put_mid}
-use Rattle.image.specs.Layout.{self, other, Slot, event_epoch, event_y, extra_space, Share, reward_ratio, event_fee, Field, head, seat, slot, share, event_size, event_at, size, InSlot, InRange, read, image}
+use Rattle.image.specs.Layout.{self, other, Slot, event_epoch, event_y, extra_space, Share, reward_ratio, event_fee}
+use Rattle.image.specs.Layout.{Field, head, seat, slot, share, event_size, event_at, size, InSlot, InRange, read, image}
 use Rattle.image.specs.Seats.{Sized}
 use Rattle.image.proofs.ListLaws.{lt_or_le, put_before, put_in, put_after}
 use Rattle.image.proofs.PlaceLaws.{slot_fits_law}
@@ -37,7 +39,9 @@ module _ (h : EventHead) (shares event : List ℕ) (room : 9 + length shares ≤
 
   -- its epoch and y
   pub written_epoch : get_or (written_event h shares event) 0 0 ≡ h.epoch.0
-  written_epoch = written_front 0 (omega arith) ∙ get_or-set_other (set event 0 h.epoch.0) 1 0 h.y.0 0 (λ e. omega arith) ∙ get_or-set_same event 0 h.epoch.0 0 (omega arith)
+  written_epoch =
+      written_front 0 (omega arith) ∙ get_or-set_other (set event 0 h.epoch.0) 1 0 h.y.0 0 (λ e. omega arith)
+      ∙ get_or-set_same event 0 h.epoch.0 0 (omega arith)
 
   pub written_y : get_or (written_event h shares event) 1 0 ≡ h.y.0
   written_y = written_front 1 (omega arith) ∙ get_or-set_same (set event 0 h.epoch.0) 1 h.y.0 0 (simp length-set (omega arith))
@@ -97,7 +101,8 @@ module _ (P E : ℕ) (img : List ℕ) (z : Sized img P E) (x : PassedEpochs) (se
     slot_new (extra_space c) r = written_spare event_head shares found room (2 + c) (omega arith) (omega arith) ∙ lent_slot P E t in_ring img (extra_space c) r
 
     share_at_seat : (s i : ℕ) → s < seats → i < 3 → get_or ys (9 + (s * 3 + i)) 0 ≡ get_or l (s * 3 + i) 0
-    share_at_seat s i a b = written_share event_head shares found room (s * 3 + i) (omega (arith, shares_long)) ∙ get_or-take (seats * 3) l (s * 3 + i) 0 (omega arith)
+    share_at_seat s i a b =
+        written_share event_head shares found room (s * 3 + i) (omega (arith, shares_long)) ∙ get_or-take (seats * 3) l (s * 3 + i) 0 (omega arith)
 
     share_new : (s : ℕ) (f : Share) → s < seats → get_or ys (share_at s f) 0 ≡ share_in l s f
     share_new s (reward_ratio self) a =
@@ -111,7 +116,8 @@ module _ (P E : ℕ) (img : List ℕ) (z : Sized img P E) (x : PassedEpochs) (se
     share_low s event_fee = omega arith
 
     share_old : (s : ℕ) (f : Share) → s < P → seats ≤ s → get_or ys (share_at s f) 0 ≡ read P E img (share t s f)
-    share_old s f lt a = written_behind event_head shares found room (share_at s f) (omega (arith, shares_long, share_low s f)) ∙ lent_share P E t in_ring img s f lt
+    share_old s f lt a =
+        written_behind event_head shares found room (share_at s f) (omega (arith, shares_long, share_low s f)) ∙ lent_share P E t in_ring img s f lt
 
     slot_is : (q : ℕ) (f : Slot) → InRange P E (slot q f) → Dec (q ≡ t) → read P E back (slot q f) ≡ epoch_words E (read P E img) x seats k l (slot q f)
     unfolding epoch_words
@@ -120,7 +126,8 @@ module _ (P E : ℕ) (img : List ℕ) (z : Sized img P E) (x : PassedEpochs) (se
     slot_is q f r (no n) =
         rw (ne_eqb q ((x.num_events + k) % E) (λ e. n (e ∙ sym et))) (part_else P E t in_ring img ys z.size many (slot q f) r n)
 
-    share_is : (q s : ℕ) (f : Share) → InRange P E (share q s f) → Dec (q ≡ t) → read P E back (share q s f) ≡ epoch_words E (read P E img) x seats k l (share q s f)
+    share_is : (q s : ℕ) (f : Share) → InRange P E (share q s f) → Dec (q ≡ t)
+        → read P E back (share q s f) ≡ epoch_words E (read P E img) x seats k l (share q s f)
     unfolding epoch_words
     share_is q s f r (yes e) =
         rw (eq-eqb q ((x.num_events + k) % E) (e ∙ et), e) (

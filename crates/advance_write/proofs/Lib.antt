@@ -1,4 +1,3 @@
-pub mod BecomesLaws
 pub mod HeadLaws
 pub mod SidesLaws
 pub mod RowLaws

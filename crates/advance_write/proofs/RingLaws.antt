@@ -1,12 +1,17 @@
 -- The ring of events: each slot keeps its newest event, so only the newest E need be written. Then the events' words are those of the definition.
 -- Assumes nothing.
-use Rattle.std.proofs.Common.{◌≡◌, ◌≢◌, ℕ, zero, suc, ◌+◌, ◌-◌, ◌%◌, ◌<◌, ◌≤◌, Bool, true, false, ◌&&◌, eqb, ltb, ◌⊎◌, List, refl, sym, ap, ◌∙◌, inl, inr, ⊎_elim, zero-add, add-suc, arith, eq-eqb, ne_eqb, ltb-true}
+use Rattle.std.proofs.Common.{◌≡◌, ◌≢◌, ℕ, zero, suc, ◌+◌, ◌-◌, ◌%◌, ◌<◌, ◌≤◌, Bool, true, false, ◌&&◌, eqb, ltb, ◌⊎◌, List}
+use Rattle.std.proofs.Common.{refl, sym, ap, ◌∙◌, inl, inr, ⊎_elim, zero-add, add-suc, arith, eq-eqb, ne_eqb, ltb-true}
 use native.Mathlib.Decide.{ℕ_discrete}
 use Rattle.std.specs.Prelude.{if◌then◌else◌}
 use Rattle.types.specs.declared.Ratio.{Ratio}
-use Rattle.image.specs.Layout.{self, other, Head, Seat, Slot, event_epoch, event_y, extra_space, Share, reward_ratio, event_fee, Field, head, seat, slot, share, Words, InRange}
+use Rattle.image.specs.Layout.{self, other, Head, Seat, Slot, event_epoch, event_y, extra_space, Share}
+use Rattle.image.specs.Layout.{reward_ratio, event_fee, Field, head, seat, slot, share, Words, InRange}
 use Rattle.image.proofs.ListLaws.{lt_or_le}
 use Rattle.image.proofs.AgeLaws.{age, age_lt, slot_of}
+use Rattle.image.specs.declared.pool_data.PoolDataMut.{PoolDataMut}
+use Rattle.image.specs.Pool.{words_in, Becomes}
+use Rattle.image.proofs.PoolLaws.{becomes_reads, becomes_same, becomes_as, becomes_next}
 use Rattle.advance_plan.specs.declared.table.SeatTable.{SeatTable}
 use Rattle.advance_plan.specs.Advance.{slot_word, share_word, ratio_in, event_written, events_after}
 use Rattle.advance_plan.specs.Stake.{Tabled, shares_in}
@@ -93,7 +98,8 @@ late_words E w x seats t first zero f = w f
 late_words E w x seats t first (suc d) f = epoch_words E (late_words E w x seats t first d) x seats (first + d) (shares_in t (first + d)) f
 
 -- an event's words depend on the one word that they replace
-pub epoch_same : (E : ℕ) (w v : Words) (x : PassedEpochs) (seats k : ℕ) (shares : List ℕ) (f : Field) → w f ≡ v f → epoch_words E w x seats k shares f ≡ epoch_words E v x seats k shares f
+pub epoch_same : (E : ℕ) (w v : Words) (x : PassedEpochs) (seats k : ℕ) (shares : List ℕ) (f : Field) → w f ≡ v f
+    → epoch_words E w x seats k shares f ≡ epoch_words E v x seats k shares f
 unfolding epoch_words
 epoch_same E w v x seats k shares (head h) e = e
 epoch_same E w v x seats k shares (seat s g) e = e
@@ -105,7 +111,8 @@ module _ {Q W : ℕ} (E : ℕ) (w : Words) (x : PassedEpochs) (seats : ℕ) (t :
   unfolding late_words
   late_none first d e f = rw e refl
 
-  pub late_more : (first k : ℕ) → first ≤ k → (P : ℕ) (v : Words) → ((f : Field) → InRange P E f → v f ≡ late_words E w x seats t first (k - first) f) → (f : Field) → InRange P E f
+  pub late_more : (first k : ℕ) → first ≤ k → (P : ℕ) (v : Words) → ((f : Field) → InRange P E f → v f ≡ late_words E w x seats t first (k - first) f)
+      → (f : Field) → InRange P E f
       → epoch_words E v x seats k (shares_in t k) f ≡ late_words E w x seats t first (k + 1 - first) f
   unfolding late_words
   late_more first k l P v has f r =
@@ -128,7 +135,8 @@ module _ {Q W : ℕ} (E : ℕ) (w : Words) (x : PassedEpochs) (seats : ℕ) (t :
   share_over : (s : ℕ) (f : Share) (k j o : ℕ) → share_made s f k (share_made s f j o) ≡ share_made s f k o
   share_over s f k j o = go (ltb s seats)
     where
-      go : (b : Bool) → (if b then share_in (shares_in t k) s f else (if b then share_in (shares_in t j) s f else o)) ≡ (if b then share_in (shares_in t k) s f else o)
+      go : (b : Bool)
+          → (if b then share_in (shares_in t k) s f else (if b then share_in (shares_in t j) s f else o)) ≡ (if b then share_in (shares_in t k) s f else o)
       go true = refl
       go false = refl
 
@@ -138,17 +146,20 @@ module _ {Q W : ℕ} (E : ℕ) (w : Words) (x : PassedEpochs) (seats : ℕ) (t :
     slot_all f zero = refl
     slot_all f (suc k) = rw (slot_all f k)
 
-    slot_late : (f : Slot) (first d : ℕ) → late E x.num_events τ (w (slot τ f)) pos lt (slot_made f) (slot_over f) first d ≡ late_words E w x seats t first d (slot τ f)
+    slot_late : (f : Slot) (first d : ℕ)
+        → late E x.num_events τ (w (slot τ f)) pos lt (slot_made f) (slot_over f) first d ≡ late_words E w x seats t first d (slot τ f)
     unfolding late late_words epoch_words
     slot_late f first zero = refl
     slot_late f first (suc d) = rw (slot_late f first d)
 
-    share_all : (s : ℕ) (f : Share) (k : ℕ) → all E x.num_events τ (w (share τ s f)) pos lt (share_made s f) (share_over s f) k ≡ events_words E w x seats t k (share τ s f)
+    share_all : (s : ℕ) (f : Share) (k : ℕ)
+        → all E x.num_events τ (w (share τ s f)) pos lt (share_made s f) (share_over s f) k ≡ events_words E w x seats t k (share τ s f)
     unfolding all events_words epoch_words
     share_all s f zero = refl
     share_all s f (suc k) = rw (share_all s f k)
 
-    share_late : (s : ℕ) (f : Share) (first d : ℕ) → late E x.num_events τ (w (share τ s f)) pos lt (share_made s f) (share_over s f) first d ≡ late_words E w x seats t first d (share τ s f)
+    share_late : (s : ℕ) (f : Share) (first d : ℕ)
+        → late E x.num_events τ (w (share τ s f)) pos lt (share_made s f) (share_over s f) first d ≡ late_words E w x seats t first d (share τ s f)
     unfolding late late_words epoch_words
     share_late s f first zero = refl
     share_late s f first (suc d) = rw (share_late s f first d)
@@ -175,7 +186,8 @@ module _ {Q W : ℕ} (E : ℕ) (w : Words) (x : PassedEpochs) (seats : ℕ) (t :
   seat_all s g (suc k) = seat_all s g k
 
   -- the newest E leave what all of them do
-  pub late_done : (P first k passed : ℕ) → 1 ≤ E → first ≡ passed - E → k ≡ passed → (f : Field) → InRange P E f → late_words E w x seats t first (k - first) f ≡ events_words E w x seats t passed f
+  pub late_done : (P first k passed : ℕ) → 1 ≤ E → first ≡ passed - E → k ≡ passed → (f : Field) → InRange P E f
+      → late_words E w x seats t first (k - first) f ≡ events_words E w x seats t passed f
   late_done P first k passed pos e ek f r = rw ek (go f r)
     where
       go : (f : Field) → InRange P E f → late_words E w x seats t first (passed - first) f ≡ events_words E w x seats t passed f
@@ -185,7 +197,8 @@ module _ {Q W : ℕ} (E : ℕ) (w : Words) (x : PassedEpochs) (seats : ℕ) (t :
           sym (slot_late pos τ r.0 g first (passed - first)) ∙ newest_all E x.num_events τ (w (slot τ g)) pos r.0 (slot_made g) (slot_over g) first passed e
           ∙ slot_all pos τ r.0 g passed
       go (share τ s g) r =
-          sym (share_late pos τ r.0 s g first (passed - first)) ∙ newest_all E x.num_events τ (w (share τ s g)) pos r.0 (share_made s g) (share_over s g) first passed e
+          sym (share_late pos τ r.0 s g first (passed - first))
+          ∙ newest_all E x.num_events τ (w (share τ s g)) pos r.0 (share_made s g) (share_over s g) first passed e
           ∙ share_all pos τ r.0 s g passed
 
 -- ---- the definition's words
@@ -220,3 +233,20 @@ module _ {Q W : ℕ} (E : ℕ) (w : Words) (cap : ℕ → ℕ) (seats epoch : �
   unfolding events_words events_after
   events_are zero f = refl
   events_are (suc k) f = epoch_is (events_words E w pass seats t k) k f ∙ ap (event_written E w cap seats y.0 k f) (events_are k f)
+
+-- ---- the same of a pool
+
+module _ {Q W : ℕ} (pool : PoolDataMut) (x : PassedEpochs) (seats : ℕ) (t : SeatTable Q W) (first : ℕ) where
+  pub late_begins : (d : ℕ) → d ≡ 0 → Becomes pool pool (late_words pool.e (words_in pool) x seats t first d)
+  late_begins d e = becomes_same pool _ (λ f r. late_none pool.e (words_in pool) x seats t first d e f)
+
+  module _ (at : PoolDataMut) (k : ℕ) (b : Becomes pool at (late_words pool.e (words_in pool) x seats t first (k - first))) where
+    pub late_goes : (next : PoolDataMut) → first ≤ k → Becomes at next (epoch_words at.e (words_in at) x seats k (shares_in t k))
+        → Becomes pool next (late_words pool.e (words_in pool) x seats t first (k + 1 - first))
+    late_goes next l y =
+        becomes_next pool at next _ _ _ b y (λ f r.
+        ap (λ (e : ℕ). epoch_words e (words_in at) x seats k (shares_in t k) f) b.e
+        ∙ late_more pool.e (words_in pool) x seats t first k l pool.p (words_in at) (becomes_reads pool at _ b) f r)
+
+    pub late_ends : first ≡ x.passed - pool.e → k ≡ x.passed → Becomes pool at (events_words pool.e (words_in pool) x seats t x.passed)
+    late_ends ef ek = becomes_as pool at _ b _ (late_done pool.e (words_in pool) x seats t pool.p first k x.passed pool.sized.e_low ef ek)

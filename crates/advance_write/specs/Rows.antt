@@ -1,7 +1,8 @@
 -- The words of an image in which unmatched rows have taken seats. Assumes nothing.
 use Rattle.std.specs.Prelude.{Bool, not, ◌&&◌, List, ℕ, eqb, if◌then◌else◌}
 use Rattle.publisher_caps.specs.Message.{key_word}
-use Rattle.image.specs.Layout.{publishers, total_delegation, delta_delegation, publisher_stake_accounts, num_slash_events, delegation_fees, head, seat, slot, share, Words}
+use Rattle.image.specs.Layout.{publishers, total_delegation, delta_delegation, publisher_stake_accounts}
+use Rattle.image.specs.Layout.{num_slash_events, delegation_fees, head, seat, slot, share, Words}
 use Rattle.advance_plan.specs.Advance.{key_after}
 
 -- row j has taken the seat `place`, unless it is matched

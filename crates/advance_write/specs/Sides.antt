@@ -1,6 +1,7 @@
 -- The words of an image whose sides have been rolled. Assumes nothing.
 use Rattle.std.specs.Prelude.{ℕ, eqb, ltb, if◌then◌else◌}
-use Rattle.image.specs.Layout.{publishers, total_delegation, delta_delegation, publisher_stake_accounts, num_slash_events, delegation_fees, head, seat, slot, share, Words}
+use Rattle.image.specs.Layout.{publishers, total_delegation, delta_delegation, publisher_stake_accounts}
+use Rattle.image.specs.Layout.{num_slash_events, delegation_fees, head, seat, slot, share, Words}
 use Rattle.advance_plan.specs.Advance.{total_in}
 
 -- both sides of seat s

@@ -76,6 +76,7 @@ fn write_epoch<const P: usize, const W: usize>(
 }
 
 // Writes the events of the newest passed epochs, at most as many as the ring holds.
+#[tactic(auto, using(crate::proofs::RingLaws::late_begins))]
 pub fn write_events<const P: usize, const W: usize>(
     pool: &mut PoolDataMut<'_>,
     seats: usize,

@@ -21,6 +21,7 @@ pub mod rows;
 pub mod sides;
 
 // The events, the sides, the keys of new publishers, then the words of the pool as a whole.
+#[tactic(auto, using(crate::proofs::WriteLaws::all_roll))]
 pub fn write_advance<const P: usize, const W: usize>(
     pool: &mut PoolDataMut<'_>,
     caps: PublisherCaps<'_>,

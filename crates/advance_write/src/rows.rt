@@ -9,6 +9,7 @@ use publisher_caps::PublisherCaps;
 use types::bool_array::BoolArray;
 
 // Row j takes the next seat unless it is matched, while any is left. The answer is the place for the row after it.
+#[tactic(auto, using(crate::proofs::RowLaws::row_passes))]
 fn take_seat(
     pool: &mut PoolDataMut<'_>,
     place: usize,
@@ -31,6 +32,7 @@ fn take_seat(
 }
 
 // Unmatched rows take seats in row order, from the first seat behind `seats`.
+#[tactic(auto, using(crate::proofs::RowLaws::rows_begin))]
 pub fn seat_rows(
     pool: &mut PoolDataMut<'_>,
     seats: usize,

@@ -23,6 +23,7 @@ fn roll_seat(pool: &mut PoolDataMut<'_>, s: usize)
 }
 
 // The sides of the first seats, all of which roll.
+#[tactic(auto, using(crate::proofs::SidesLaws::rolling))]
 pub fn roll_sides(pool: &mut PoolDataMut<'_>, seats: usize)
     requires seats { seats ≤ pool.old.p }
     requires rolls { all_below seats (seat_rolls (words_in pool.old)) ≡ true }

@@ -1,4 +1,4 @@
-use Rattle.advance_write.proofs.BecomesLaws.{read_same}
+use Rattle.image.proofs.PoolLaws.{read_same}
 use Rattle.advance_write.proofs.HeadLaws.{head_written}
 use Rattle.advance_write.proofs.head.write_head.Goals as goal
 

@@ -1,15 +1,11 @@
 use Rattle.std.proofs.Common.{sym, subst, arith}
 use Rattle.image.specs.declared.pool_data.PoolDataMut.{PoolDataMut}
 use Rattle.image.specs.Pool.{words_in, Becomes}
-use Rattle.image.proofs.PoolLaws.{becomes_as}
+use Rattle.image.proofs.PoolLaws.{becomes_as, becomes_same}
 use Rattle.advance_write.specs.Rows.{row_words}
-use Rattle.advance_write.proofs.BecomesLaws.{becomes_same}
-use Rattle.advance_write.proofs.RowLaws.{row_matched, row_full, row_seated}
+use Rattle.advance_write.proofs.RowLaws.{row_full, row_seated}
 use Rattle.advance_write.proofs.rows.take_seat.Goals as goal
 use Rattle.advance_write.proofs.rows.take_seat.Goals.{then-place-pool, else-place-pool}
-
-pub returns-then-matched-clause-words : goal.returns-then-matched-clause-words
-returns-then-matched-clause-words c = let pool = c.args.pool.now in becomes_same pool _ (row_matched pool.p pool.e (words_in pool) _ _ _ _ c.if-matched.true)
 
 pub returns-clause-words : goal.returns-clause-words
 returns-clause-words c =

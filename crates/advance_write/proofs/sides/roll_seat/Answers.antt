@@ -1,7 +1,6 @@
 use Rattle.image.specs.Layout.{self, other}
 use Rattle.image.specs.Pool.{words_in}
-use Rattle.image.proofs.PoolLaws.{becomes_reads}
-use Rattle.advance_write.proofs.BecomesLaws.{becomes_next, read_same}
+use Rattle.image.proofs.PoolLaws.{becomes_reads, becomes_next, read_same}
 use Rattle.advance_write.proofs.SidesLaws.{surely_rolls, rolls_into, both_words}
 use Rattle.advance_write.proofs.sides.roll_seat.Goals as goal
 
