@@ -12,9 +12,9 @@ use Rattle.types.specs.Base.{word}
 use Rattle.types.proofs.Below.{NoneBelow, none_start, none_more}
 use Rattle.image.specs.Layout.{Words}
 use Rattle.event_walk.specs.declared.newest.Newest.{Newest}
-use Rattle.event_walk.specs.Walk.{walk_length, walk_epoch}
+use Rattle.event_walk.specs.Walk.{walk_length, walk_epoch, walk_meets, walk_reads}
 use Rattle.event_walk.specs.Walked.{epochs_of, NewestOf}
-use Rattle.event_walk.proofs.WalkLaws.{length_le, meets_at, meets_all, reads_at, reads_all}
+use Rattle.event_walk.proofs.WalkLaws.{length_le, meets_at, meets_all, reads_at, reads_all, reads_le}
 
 module _ (E : ℕ) (w : Words) (from : ℕ) where
   -- the first k events are not too old, and these are their epochs
@@ -45,31 +45,26 @@ module _ (E : ℕ) (w : Words) (from : ℕ) where
       go_words j l (yes e) = rw (e, get_or_push epochs epoch 0 k r.many) b
       go_words j l (no n) = rw (get_or_append_left epochs (epoch ∷ []) 0 j (omega (arith, r.many))) (r.words j (omega arith))
 
-  -- the event behind them is too old, and is read
-  pub newest_old : (r : Newest) (k epoch : ℕ) → E ≤ 52 → EpochsTo (epochs_of r) k → r.reads ≡ k + 1 → k < walk_length E w → epoch ≡ walk_epoch E w k
-      → epoch < from → NewestOf E w from r
-  newest_old r k epoch few t is l q o =
+  -- those k are all that are met
+  newest_is : (r : Newest) (k : ℕ) → E ≤ 52 → EpochsTo (epochs_of r) k → k ≤ walk_length E w → k ≡ walk_meets E w from → r.reads ≡ walk_reads E w from
+      → NewestOf E w from r
+  newest_is r k few t l m reads =
       let b = length_le E w in
-      let m = meets_at E w from k l t.young (omega arith) in
       record {
         meets = t.many ∙ m;
-        reads = is ∙ reads_at E w from k l m;
+        reads = reads;
         few = omega (arith, t.many);
-        short = omega arith;
+        short = omega (arith, reads_le E w from);
         epochs = λ j h. t.held j (omega (arith, t.many));
         words = λ j h. t.words j (omega (arith, t.many));
       }
 
+  -- the event behind them is too old, and is read
+  pub newest_old : (r : Newest) (k epoch : ℕ) → E ≤ 52 → EpochsTo (epochs_of r) k → r.reads ≡ k + 1 → k < walk_length E w → epoch ≡ walk_epoch E w k
+      → epoch < from → NewestOf E w from r
+  newest_old r k epoch few t is l q o =
+      let m = meets_at E w from k l t.young (omega arith) in newest_is r k few t (omega arith) m (is ∙ reads_at E w from k l m)
+
   -- there is none behind them
   pub newest_all : (r : Newest) (k : ℕ) → E ≤ 52 → EpochsTo (epochs_of r) k → r.reads ≡ k → k ≡ walk_length E w → NewestOf E w from r
-  newest_all r k few t is l =
-      let b = length_le E w in
-      let m = meets_all E w from k l t.young in
-      record {
-        meets = t.many ∙ m;
-        reads = is ∙ reads_all E w from k l m;
-        few = omega (arith, t.many);
-        short = omega arith;
-        epochs = λ j h. t.held j (omega (arith, t.many));
-        words = λ j h. t.words j (omega (arith, t.many));
-      }
+  newest_all r k few t is l = let m = meets_all E w from k l t.young in newest_is r k few t (omega arith) m (is ∙ reads_all E w from k l m)

@@ -8,7 +8,8 @@ pub returns-then-epoch-from : goal.returns-then-epoch-from
 returns-then-epoch-from c =
     let z = c.args.pool.sized in
     let s = slot_back _ _ c.loop-k.k _ _ z.e_low (omega arith) c.loop-k.invariant.slot c.slot_before-slot.ensures in
-    newest_old _ _ _ _ c.loop-k.k _ z.e_high c.loop-k.invariant.epochs refl (omega arith) (epoch_at _ _ c.loop-k.k _ _ s c.event_epoch-epoch.ensures) c.if-epoch-from.true
+    newest_old _ _ _ _ c.loop-k.k _ z.e_high c.loop-k.invariant.epochs refl (omega arith)
+    (epoch_at _ _ c.loop-k.k _ _ s c.event_epoch-epoch.ensures) c.if-epoch-from.true
 
 pub loop-k-preserved : goal.loop-k-preserved
 loop-k-preserved c =
@@ -17,7 +18,9 @@ loop-k-preserved c =
     record {
       inside = before_lt _ _ _ c.loop-k.invariant.inside c.slot_before-slot.ensures;
       slot = slot_kept _ _ _ _ s;
-      epochs = epochs_more _ _ _ _ _ _ _ c.loop-k.invariant.epochs c.push.ensures.items (epoch_at _ _ c.loop-k.k _ _ s c.event_epoch-epoch.ensures) c.if-epoch-from.false (omega arith);
+      epochs =
+          epochs_more _ _ _ _ _ _ _ c.loop-k.invariant.epochs c.push.ensures.items
+          (epoch_at _ _ c.loop-k.k _ _ s c.event_epoch-epoch.ensures) c.if-epoch-from.false (omega arith);
     }
 
 pub returns : goal.returns
