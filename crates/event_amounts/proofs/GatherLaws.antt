@@ -12,7 +12,8 @@ use lib.ListN.{length, get_or, replicate}
 use borrow.Author.Tests.{lt-ltb, le-ltb, ltb-true}
 use Rattle.std.specs.Prelude.{if◌then◌else◌, Some, None}
 use Rattle.types.specs.Base.{word, sum_below, all_below, count_below}
-use Rattle.types.proofs.Below.{and_left, and_both, sum_none, sum_more, sum_grows, all_none, all_more, all_each, all_not, all_at, count_none, count_more, count_le}
+use Rattle.types.proofs.Below.{and_left, and_both, sum_none, sum_more, sum_grows, all_none, all_more}
+use Rattle.types.proofs.Below.{all_each, all_not, all_at, count_none, count_more, count_le}
 use Rattle.positions.specs.declared.Key.{Key}
 use Rattle.positions.specs.declared.position.Position.{Position}
 use Rattle.positions.specs.Positions.{position_from, in_publisher}

@@ -55,7 +55,8 @@ module _ {T : Type 0} (as_position : T → Position) (xs : List T) (E : ℕ) (w 
         most = kept.most;
       }
 
-      module _ (p : Position) (same : p ≡ as_position x) (n : Newest) (newest : NewestOf E w from n) (matches : true ≡ record_in (as_position x) publisher) where
+      module _ (p : Position) (same : p ≡ as_position x) (n : Newest) (newest : NewestOf E w from n)
+          (matches : true ≡ record_in (as_position x) publisher) where
         pub kept_unfit : SpanOf (epochs_of n) p unlocking None → gather_fits E w words publisher from unlocking ≡ false
         kept_unfit known =
             gather_unfit E w words publisher from unlocking i g kept.gathering p (same ∙ stands) n newest

@@ -25,7 +25,8 @@ use Rattle.event_amounts.proofs.RecordLaws.{record_in_words, items_count, item_p
 module _ (E : ℕ) (w : Words) (a b : List ℕ) (publisher : Key) (from unlocking : ℕ) (count : length a / 9 ≡ length b / 9)
     (same : (i : ℕ) → i < length a / 9 → position_from a (i * 9) ≡ position_from b (i * 9)) where
   in_same : (i : ℕ) → i < length a / 9 → in_publisher a (i * 9) publisher ≡ in_publisher b (i * 9) publisher
-  in_same i l = sym (record_in_words (position_from a (i * 9)) a (i * 9) refl publisher) ∙ record_in_words (position_from a (i * 9)) b (i * 9) (same i l) publisher
+  in_same i l =
+      sym (record_in_words (position_from a (i * 9)) a (i * 9) refl publisher) ∙ record_in_words (position_from a (i * 9)) b (i * 9) (same i l) publisher
 
   drawn_same : (k i : ℕ) → i < length a / 9 → drawn_at E w a publisher unlocking k i ≡ drawn_at E w b publisher unlocking k i
   unfolding drawn_at
