@@ -1,5 +1,6 @@
 -- Laws of a key's words, by the bytes that its digits spell. Assumes nothing.
-use Rattle.std.proofs.Common.{◌≡◌, ℕ, ◌+◌, ◌*◌, ◌<◌, ◌≤◌, List, [], ◌∷◌, zero, suc, Option, None, Some, Bool, true, false, cond, sym, ◌∙◌, lit≤, refl, length, take, drop, get_or, arith}
+use Rattle.std.proofs.Common.{◌≡◌, ℕ, ◌+◌, ◌*◌, ◌<◌, ◌≤◌, List, [], ◌∷◌, zero, suc, Option, None, Some, Bool}
+use Rattle.std.proofs.Common.{true, false, cond, sym, ◌∙◌, lit≤, refl, length, take, drop, get_or, arith}
 use Rattle.std.proofs.lemmas.Grind.{common_steps, elements}
 use Rattle.std.proofs.lemmas.List.{get_or-take, get_or-drop, take_all}
 use Rattle.std.specs.Int.{from_le_bytes, w64}
@@ -70,7 +71,8 @@ module _ (s : List ℕ) (long : length s ≡ 64) where
   unfolding spelled
   key_some n a b c d bytes out l e f i j k m = rw key_are (go (all_hex s) (sym bytes_are ∙ e))
     where
-      go : (h : Bool) → cond {A = Option ℕ} h (Some 32) None ≡ Some n → Some (a ∷ b ∷ c ∷ d ∷ []) ≡ cond h (Some (word_at s 0 ∷ word_at s 16 ∷ word_at s 32 ∷ word_at s 48 ∷ [])) None
+      go : (h : Bool) → cond {A = Option ℕ} h (Some 32) None ≡ Some n
+          → Some (a ∷ b ∷ c ∷ d ∷ []) ≡ cond h (Some (word_at s 0 ∷ word_at s 16 ∷ word_at s 32 ∷ word_at s 48 ∷ [])) None
       go true q =
           let g : bytes ≡ stored s 32 out = cc in
           let w = λ (at : ℕ) (t : at + 8 ≤ 32). word_is s bytes out at g (omega arith) t in

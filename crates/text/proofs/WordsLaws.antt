@@ -1,10 +1,19 @@
 -- Laws of a list's words: one for each way out of a reader. Assumes nothing.
-use Rattle.std.proofs.Common.{◌≡◌, ℕ, ◌+◌, ◌-◌, ◌<◌, ◌≤◌, List, [], ◌∷◌, ◌++◌, length, take, drop, get_or, set, lt-ltb, ap, sym, ◌∙◌, add-one, drop-cons, length-drop, length-take, length-append, append-nil, append_assoc, min, refl, arith, Bool, true, false, cond, ltb, eqb, None, Some, Result, Ok, Err}
+use Rattle.std.proofs.Common.{◌≡◌, ℕ, ◌+◌, ◌-◌, ◌<◌, ◌≤◌, List, [], ◌∷◌, ◌++◌, length, take, drop, get_or, set, lt-ltb, ap, sym, ◌∙◌}
+use Rattle.std.proofs.Common.{add-one, drop-cons, length-drop, length-take, length-append, append-nil, append_assoc}
+use Rattle.std.proofs.Common.{min, refl, arith, Bool, true, false, cond, ltb, eqb, None, Some, Result, Ok, Err}
 use Rattle.std.proofs.lemmas.Grind.{common_steps}
 use Rattle.std.proofs.lemmas.List.{take_all, take-append-drop}
 use Rattle.std.proofs.Math.ListN.{drop_of_length-le}
 use Rattle.std.proofs.Math.Seq.{take-length, take-append-add, drop-append-add}
 use borrow.Rule.Slice.PartMut.{put_mid}
+use denote.Ref.{Bor}
+use denote.Param.Members.{Mut}
+use Rattle.std.specs.Fn.{CalledAt}
+use Rattle.std.specs.Slice.Iter as slice
+use Rattle.std.proofs.lemmas.Iterator.{YieldsList}
+use Rattle.std.proofs.lemmas.Iterator.Consumers.{YieldsList-at}
+use Rattle.std.proofs.lemmas.Iterator.Splits.{YieldsList-from_slice_split}
 use Rattle.text.specs.declared.items.WordError.{WordError}
 use Rattle.text.specs.declared.items.WordError.TheVariants.{NotWord}
 use Rattle.std.specs.Str.{bytes_eq}
@@ -17,6 +26,12 @@ use Rattle.text.specs.Hex.{all_hex}
 use Rattle.text.specs.Key.{key_of}
 use Rattle.text.proofs.LaidLaws.{laid_more, length-laid, laid_nowhere}
 use Rattle.text.specs.Words.{dash, comma, mark, key_words, number_words, item_of, behind, before, words_of, numbers, laid, list_of, listed}
+
+-- what a slice that is cut at each comma comes to as an iterator, by what `split` and `into_iter` ensure
+pub items_road : {F : Type 0} {s t : _} (g : Mut F (Bor ℕ × Unit {0}) Bool) {f : F} (words : List ℕ)
+    → t ≡ s → slice.split_rest s ≡ words → slice.split_done s ≡ false → slice.split_callee s ≡ f
+    → ((x : ℕ) (b : Bool) (q : F) → CalledAt g f x b q → (q ≡ f) × (b ≡ eqb x comma)) → YieldsList (slice.split_steps g) (λ x. x.now) t (items comma words)
+items_road g words e rest done callee calls = YieldsList-at e (YieldsList-from_slice_split g (λ b. eqb b comma) words rest done callee calls)
 
 -- a full room
 pub words_full : (xs : List (List ℕ)) (room k : ℕ) → room ≤ k → words_of xs room k ≡ Ok room
@@ -82,9 +97,6 @@ module _
     whole : put_mid k (length out - k) out new ≡ take k out ++ new
     whole = rw (drop_of_length-le (drop k out) {i = length out - k} (omega (arith, length-drop k out)), append-nil new)
 
-    pub turn_length : length (put_mid k (length out - k) out new) ≡ length out
-    turn_length = rw whole (omega (arith, length-append (take k out) new, length-take k out, length-new))
-
     k-long : length (take k out) ≡ k
     k-long = omega (arith, length-take k out)
 
@@ -115,7 +127,11 @@ module _ (xs : List (List ℕ)) (k : ℕ) (out : List ℕ) where
   turn_none e h = rw e (grind (arith, common_steps), take-append-drop k out)
 
   pub turn_full : k ≡ length out → (words_of xs (length out) k ≡ Ok k) × (take k out ++ laid (numbers xs) (drop k out) ≡ out)
-  turn_full e = rw e (words_full xs (length out) (length out) (omega arith), rw (drop_of_length-le out {i = length out} (omega arith), take-length out, laid_nowhere (numbers xs), append-nil out))
+  turn_full e =
+      rw e (
+        words_full xs (length out) (length out) (omega arith),
+        rw (drop_of_length-le out {i = length out} (omega arith), take-length out, laid_nowhere (numbers xs), append-nil out),
+      )
 
 -- no more words are counted than there is room for
 words_counted : (xs : List (List ℕ)) (room k n : ℕ) → words_of xs room k ≡ Ok n → (min k room ≤ n) × (n ≤ room)

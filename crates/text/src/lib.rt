@@ -90,7 +90,7 @@ fn word(bytes: &[u8], at: usize) -> u64
 }
 
 // A key of 64 hexadecimal digits, as four words, each with its lowest byte first.
-#[tactic(auto, unfolding(crate::specs::Key::key_of))]
+#[tactic(auto, using(crate::proofs::KeyLaws::key_none), unfolding(crate::specs::Key::key_of))]
 pub fn key(s: &[u8]) -> Option<[u64; 4]>
     ensures { result ≡ key_of s.now }
 {
@@ -102,7 +102,8 @@ pub fn key(s: &[u8]) -> Option<[u64; 4]>
     Some([word(&key, 0), word(&key, 8), word(&key, 16), word(&key, 24)])
 }
 
-// Hexadecimal digits as bytes, put at the start of `out`; what is beyond the room is passed over.
+// Hexadecimal digits as bytes, put at the start of `out`; what is beyond the room is passed over. By index: two digits are read for
+// a byte, and over `iter_mut().zip(..)` an invariant has no name for the bytes so far.
 #[tactic(auto, using(std::proofs::lemmas::List::take_min, crate::proofs::HexLaws::hex_pair), unfolding(crate::specs::Hex::bytes_of, crate::specs::Hex::even_of, crate::specs::Hex::spelled, crate::specs::Hex::stored, crate::specs::Hex::byte_at))]
 pub fn bytes(s: &[u8], out: &mut [u8]) -> Option<usize>
     ensures count { result ≡ bytes_of s.now (length out.old) }

@@ -1,11 +1,8 @@
 -- `text::key` meets its contract. Assumes nothing.
 use Rattle.std.proofs.Common.{◌≡◌, Some, replicate, sym, refl, ◌∙◌, arith}
 use Rattle.text.specs.Hex.{spelled}
-use Rattle.text.proofs.KeyLaws.{key_none, key_some}
+use Rattle.text.proofs.KeyLaws.{key_some}
 use Rattle.text.proofs.key.Goals as goal
-
-pub returns-in_err-bytes : goal.returns-in_err-bytes
-returns-in_err-bytes c = c.from_residual.ensures ∙ key_none c.args.s.now (omega arith) (sym c.bytes.ensures.count ∙ c.in_err-bytes.was)
 
 pub returns : goal.returns
 returns c =
