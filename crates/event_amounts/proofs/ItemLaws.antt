@@ -35,45 +35,50 @@ module _ {T : Type 0} (as_position : T → Position) (xs : List T) (E : ℕ) (w 
   pub kept_start : (g : EventAmounts) → g ≡ no_amounts → Kept 0 0 g
   kept_start g e = rw e (record { gathering = gather_start E w words publisher from unlocking; most = λ h k. omega (arith, zeros_at 52 k) })
 
-  pub kept_end : (i drawn : ℕ) (g : EventAmounts) → Kept i drawn g → length xs ≤ i → i ≤ length xs → Gathers E w words publisher from unlocking g
-  kept_end i drawn g kept a b = gather_end E w words publisher from unlocking i g kept.gathering (omega (arith, items_count as_position xs))
+module _ {T : Type 0} {as_position : T → Position} {xs : List T} {E : ℕ} {w : Words} {publisher : Key} {from unlocking i drawn : ℕ} {g : EventAmounts}
+    (kept : Kept as_position xs E w publisher from unlocking i drawn g)
+  where
+    abbrev here : List ℕ
+    here = records_words (map as_position xs)
 
-  -- ---- position i
+    pub kept_end : length xs ≤ i → i ≤ length xs → Gathers E w here publisher from unlocking g
+    kept_end a b = gather_end E w here publisher from unlocking i g kept.gathering (omega (arith, items_count as_position xs))
 
-  module _ (i drawn : ℕ) (g : EventAmounts) (kept : Kept i drawn g) where
+    -- ---- position i
+
     -- the read count fits
     pub kept_reads : (n : Newest) → NewestOf E w from n → i ≤ 256 → g.reads + n.reads < word
-    kept_reads n newest l = reads_fit E w words publisher from unlocking n newest i g kept.gathering l
+    kept_reads n newest l = reads_fit E w here publisher from unlocking n newest i g kept.gathering l
 
     module _ (x : T) (is : x ≡ get_or xs i x) (l : i < length xs) where
-      stands : as_position x ≡ position_from words (i * 9)
+      stands : as_position x ≡ position_from here (i * 9)
       stands = item_position as_position xs i x l is
 
-      pub kept_other : false ≡ record_in (as_position x) publisher → Kept (i + 1) drawn g
+      pub kept_other : false ≡ record_in (as_position x) publisher → Kept as_position xs E w publisher from unlocking (i + 1) drawn g
       kept_other e = record {
-        gathering = gather_other E w words publisher from unlocking i g kept.gathering (as_position x) stands (sym e);
+        gathering = gather_other E w here publisher from unlocking i g kept.gathering (as_position x) stands (sym e);
         most = kept.most;
       }
 
       module _ (p : Position) (same : p ≡ as_position x) (n : Newest) (newest : NewestOf E w from n)
           (matches : true ≡ record_in (as_position x) publisher) where
-        pub kept_unfit : SpanOf (epochs_of n) p unlocking None → gather_fits E w words publisher from unlocking ≡ false
+        pub kept_unfit : SpanOf (epochs_of n) p unlocking None → gather_fits E w here publisher from unlocking ≡ false
         kept_unfit known =
-            gather_unfit E w words publisher from unlocking i g kept.gathering p (same ∙ stands) n newest
+            gather_unfit E w here publisher from unlocking i g kept.gathering p (same ∙ stands) n newest
             (omega (arith, items_count as_position xs)) (ap (λ (q : Position). record_in q publisher) same ∙ sym matches) known
 
         module _ (s : Span) (known : SpanOf (epochs_of n) p unlocking (Some s)) where
-          pub kept_walked : (more : ℕ) (r : EventAmounts) → more ≡ min (drawn + s.amount) (word - 1) → Walked n s g r → Kept (i + 1) more r
+          pub kept_walked : (more : ℕ) (r : EventAmounts) → more ≡ min (drawn + s.amount) (word - 1) → Walked n s g r → Kept as_position xs E w publisher from unlocking (i + 1) more r
           kept_walked more r sum walked = record {
             gathering =
-                gather_walked E w words publisher from unlocking i g kept.gathering p (same ∙ stands) n newest
+                gather_walked E w here publisher from unlocking i g kept.gathering p (same ∙ stands) n newest
                 (omega (arith, items_count as_position xs)) (ap (λ (q : Position). record_in q publisher) same ∙ sym matches) s known r walked;
             most = λ h k.
                 let e : more ≡ drawn + s.amount = omega arith in
                 omega (arith, added_most (epochs_of n) s g.amounts r.amounts walked.amounts k, kept.most (omega arith) k);
           }
 
-          pub kept_past : sums_fit (epochs_of n) s g.amounts ≡ false → gather_fits E w words publisher from unlocking ≡ false
+          pub kept_past : sums_fit (epochs_of n) s g.amounts ≡ false → gather_fits E w here publisher from unlocking ≡ false
           kept_past e =
-              gather_past E w words publisher from unlocking i g kept.gathering p (same ∙ stands) n newest
+              gather_past E w here publisher from unlocking i g kept.gathering p (same ∙ stands) n newest
               (omega (arith, items_count as_position xs)) (ap (λ (q : Position). record_in q publisher) same ∙ sym matches) s known e
