@@ -1,6 +1,6 @@
 -- Matching the rows with the seats, seat by seat, and the counts of the rows. Assumes nothing.
 use Rattle.std.proofs.Common.{◌≡◌, ℕ, zero, suc, ◌+◌, ◌-◌, ◌<◌, ◌≤◌, Bool, true, false, ◌||◌, eqb, ltb, List, length, set}
-use Rattle.std.proofs.Common.{replicate, sym, refl, ap, ◌∙◌, subst, add-zero, add-suc, add-one, arith, length-set, eq-eqb, ne_eqb}
+use Rattle.std.proofs.Common.{replicate, sym, refl, ap, ◌∙◌, add-zero, add-suc, add-one, arith, length-set, eq-eqb, ne_eqb}
 use native.Mathlib.Decide.{ℕ_discrete}
 use Rattle.std.specs.Prelude.{Option, Some, None, if◌then◌else◌}
 use Rattle.types.specs.Base.{any_below, count_below}
@@ -101,9 +101,6 @@ module _ (w : Words) (m : List ℕ) (s : ℕ) (caps words : List ℕ) (h : Match
 pub key_is : (w : Words) (s : ℕ) (key : Key) → key ≡ publisher_at w s → number_of key ≡ key_number w s
 unfolding key_number
 key_is w s key e = ap number_of e
-
-pub matched_all : (w : Words) (m : List ℕ) (s seats : ℕ) (caps words : List ℕ) → s ≡ seats → Matched w m s caps words → Matched w m seats caps words
-matched_all w m s seats caps words e h = subst (λ (n : ℕ). Matched w m n caps words) e h
 
 -- ---- the counts
 

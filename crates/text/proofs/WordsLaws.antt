@@ -91,9 +91,6 @@ module _
     put : new ≡ laid (numbers (x ∷ [])) (drop k out)
     put = rw part at image
 
-    length-new : length new ≡ length out - k
-    length-new = ap length put ∙ length-laid (numbers (x ∷ [])) (drop k out) ∙ length-drop k out
-
     whole : put_mid k (length out - k) out new ≡ take k out ++ new
     whole = rw (drop_of_length-le (drop k out) {i = length out - k} (omega (arith, length-drop k out)), append-nil new)
 

@@ -1,6 +1,6 @@
 use mathlib.Core.Path.{◌≡◌}
 use Prim.Native.Nat.{ℕ, ◌+◌, ◌-◌, ◌*◌, ◌/◌, ◌%◌, ◌^◌, ◌<◌}
-use native.Mathlib.Nat.{div-add-mod', div-lt_iff_lt-mul}
+use native.Mathlib.Nat.{div-add-mod'}
 use native.Mathlib.Omega.{arith}
 use Rattle.types.specs.MulDiv.{Division}
 use Rattle.types.proofs.MulDivLaws.{estimate}
@@ -21,9 +21,6 @@ module _ (h x d : ℕ) where
   t = q * (2 ^ 32 - d % 2 ^ 32)
 
 module _ (h x d : ℕ) (hh : h < d) where
-  q_lt : q h x d < 2 ^ 32
-  q_lt = (div-lt_iff_lt-mul {k = e h x d} {x = h} {y = 2 ^ 32} (omega arith)).1 (omega arith)
-
   sum_is : q h x d * d + (s h x d + t h x d) ≡ h * 2 ^ 32 + x
   sum_is = estimate h x d (q h x d) (h % e h x d) (2 ^ 32 - d % 2 ^ 32) (div-add-mod' h (e h x d)) (omega arith)
 
