@@ -11,8 +11,8 @@ use Rattle.types.specs.Base.{half, accepted}
 use Rattle.types.proofs.Below.{first_at, first_none, first_le}
 use Rattle.positions.specs.declared.Key.{Key}
 use Rattle.positions.specs.Key.{same_key}
-use Rattle.image.specs.Layout.{num_events, Field, head, Words, addr, read}
-use Rattle.image.specs.Seats.{in_range, sized_image, checked_image, Sized, zero_key, publisher_at, empty_seat, seats_of, first_seat, publisher_index_of}
+use Rattle.image.specs.Layout.{num_events, head, Words, read}
+use Rattle.image.specs.Seats.{in_range, sized_image, checked_image, Sized, publisher_at, empty_seat, seats_of, first_seat, publisher_index_of}
 
 -- ---- refusal 1
 

@@ -1,6 +1,6 @@
 -- Laws of a list's words: one for each way out of a reader. Assumes nothing.
 use Rattle.std.proofs.Common.{◌≡◌, ℕ, ◌+◌, ◌-◌, ◌<◌, ◌≤◌, List, [], ◌∷◌, ◌++◌, length, take, drop, get_or, set, lt-ltb, ap, sym, ◌∙◌}
-use Rattle.std.proofs.Common.{add-one, drop-cons, length-drop, length-take, length-append, append-nil, append_assoc}
+use Rattle.std.proofs.Common.{add-one, drop-cons, length-drop, length-take, append-nil, append_assoc}
 use Rattle.std.proofs.Common.{min, refl, arith, Bool, true, false, cond, ltb, eqb, None, Some, Result, Ok, Err}
 use Rattle.std.proofs.lemmas.Grind.{common_steps}
 use Rattle.std.proofs.lemmas.List.{take_all, take-append-drop}
@@ -24,7 +24,7 @@ use Rattle.text.specs.declared.NumberError.TheVariants.{NoDigits}
 use Rattle.text.specs.Decimal.{number_of}
 use Rattle.text.specs.Hex.{all_hex}
 use Rattle.text.specs.Key.{key_of}
-use Rattle.text.proofs.LaidLaws.{laid_more, length-laid, laid_nowhere}
+use Rattle.text.proofs.LaidLaws.{laid_more, laid_nowhere}
 use Rattle.text.specs.Words.{dash, comma, mark, key_words, number_words, item_of, behind, before, words_of, numbers, laid, list_of, listed}
 
 -- what a slice that is cut at each comma comes to as an iterator, by what `split` and `into_iter` ensure
