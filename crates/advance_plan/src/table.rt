@@ -3,7 +3,8 @@ ghost use Rattle.std.specs.Prelude.{◌≡◌, ◌*◌, length, replicate};
 
 // Room for P seats: a cap for each, and its three words in an event, self ratio, other ratio and fee: those of the first passed epoch, and of every
 // later one. A short pool has a short table, since clearing a long one would take more than all else.
-// Three arrays, not one of seats: the shares stand as they do in an event, into which they are copied as one slice.
+// Three arrays, not one of seats: the shares stand as they do in an event, into which they are copied as one slice. W is
+// P * 3 by an invariant, since a length may not be reckoned from another. A table is never copied, so it has no `Clone`.
 #[derive(Debug, PartialEq, Eq, Drop)]
 pub struct SeatTable<const P: usize, const W: usize> {
     pub caps: [u64; P],

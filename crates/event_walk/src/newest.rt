@@ -9,7 +9,7 @@ use image::MAX_EVENTS;
 use image::pool_data::PoolData;
 
 // The epochs of the newest events that are not older than the record's, newest first, and how many events each walk reads.
-#[derive(Drop)]
+#[derive(Debug, PartialEq, Eq, Drop)]
 pub struct Newest {
     pub epochs: ArrayVec<u64, MAX_EVENTS>,
     pub reads: usize,

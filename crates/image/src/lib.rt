@@ -25,7 +25,7 @@ pub fn event_at(p: usize, t: usize) -> usize
     2 + 12 * p + t * (9 + 3 * p)
 }
 
-// Where the event count stands, behind the last slot.
+// Where the event count stands, behind the last slot. `size` and `checked` ask it too, which have no `PoolData`.
 pub fn num_events_at(p: usize, e: usize) -> usize
     requires { (p ≤ 1024) × (e ≤ 52) }
     ensures { result ≡ num_events_at p e }
