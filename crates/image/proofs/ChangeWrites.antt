@@ -107,10 +107,6 @@ pub refused_leaves : (P E : ℕ) (img : List ℕ) (n : ℕ) → changed_image P 
 unfolding changed_image
 refused_leaves P E img n = refl
 
-pub refused_answers : (n : ℕ) → acceptance (refused n) ≡ refused n
-unfolding acceptance
-refused_answers n = refl
-
 -- ---- whose stake it is
 
 pub self_read : (P E : ℕ) (img : List ℕ) (s : ℕ) (b : Bool) (r : DelegationState) → b ≡ true

@@ -99,11 +99,6 @@ reward_sum_same f g n h =
 -- ---- the gathered amounts
 
 module _ (E : ℕ) (w : Words) (s : ℕ) (self_side : Bool) where
-  pub reward_sums : (g : EventAmounts) (o : Outcome Parts) → o ≡ reward_sum (walk_length E w) (slot_reward E w s self_side (λ (k : ℕ). get_or g.amounts k 0))
-      → map_outcome (earned_with g.reads) o ≡ reward_of E w s (Some g) self_side
-  unfolding reward_of
-  reward_sums g o q = ap (map_outcome (earned_with g.reads)) q
-
   -- amounts that an account's positions gather earn what the positions do
   pub reward_gathered : (g : Option EventAmounts) (words : List ℕ) (publisher : Key) (from unlocking : ℕ) → GatheredOf E w words publisher from unlocking g
       → reward_of E w s g self_side ≡ calculate_reward E w s words publisher from unlocking self_side

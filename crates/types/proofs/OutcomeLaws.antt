@@ -42,11 +42,6 @@ pub test_refused : {A : Type 0} (t : Bool) (k j : ℕ) (rest : Outcome A) → k 
 test_refused true k j rest n e = absurd (n cc)
 test_refused false k j rest n e = (refl, e)
 
--- a test was met, where nothing behind it gives its number
-pub test_refuses : {A : Type 0} (t : Bool) (k : ℕ) (rest : Outcome A) → rest ≢ refused k → (if t then refused k else rest) ≡ refused k → t ≡ true
-test_refuses true k rest n e = refl
-test_refuses false k rest n e = absurd (n e)
-
 -- what was mapped was refused
 pub map_refused : {A B : Type 0} (f : A → B) (o : Outcome A) (k : ℕ) → map_outcome f o ≡ refused k → o ≡ refused k
 map_refused f (refused n) k e = let q : n ≡ k = cc in ap refused q
@@ -57,19 +52,3 @@ pub then_refused : {A B : Type 0} (f : A → Outcome B) (o : Outcome A) (k : ℕ
     → (a : A) × ((o ≡ accepted a) × (f a ≡ refused k))
 then_refused f (refused n) k h e = let q : n ≡ k = cc in absurd (h (ap refused q))
 then_refused f (accepted a) k h e = (a, (refl, e))
-
--- ---- a function's result
-
--- its outcome by a view is what the view takes from its outcome
-pub by_maps : {A B : Type 0} (view : A → B) (r : Result A Refusal) → outcome_by view r ≡ map_outcome view (outcome_of r)
-by_maps view (Ok a) = refl
-by_maps view (Err e) = refl
-
--- the value of an accepted one, and the error of a refused one
-pub ok_of : {A : Type 0} (r : Result A Refusal) (a : A) → outcome_of r ≡ accepted a → r ≡ Ok a
-ok_of (Ok b) a e = ap Ok cc
-ok_of (Err x) a e = absurd (not_accepted a (number_of x) (sym e))
-
-pub err_of : {A : Type 0} (r : Result A Refusal) (k : ℕ) → outcome_of r ≡ refused k → (x : Refusal) × (r ≡ Err x) × (number_of x ≡ k)
-err_of (Ok a) k e = absurd (not_accepted a k e)
-err_of (Err x) k e = (x, refl, cc)
