@@ -1,13 +1,11 @@
 -- What an accepted outcome tells of the tests and steps in front of it, and what a refused one tells. Assumes nothing.
-use mathlib.Core.Path.{◌≡◌, refl, sym, ap}
+use mathlib.Core.Path.{◌≡◌, refl, ap}
 use mathlib.Core.Logic.{◌≢◌}
 use mathlib.Core.Bool.{Bool, true, false}
 use Prim.Native.Nat.{ℕ}
 use native.Mathlib.Omega.{arith}
-use Rattle.std.specs.Prelude.{if◌then◌else◌, Result, Ok, Err}
-use Rattle.types.specs.Base.{Outcome, refused, accepted, map_outcome, and_then, after, outcome_of, outcome_by}
-use Rattle.types.specs.Refusals.{number_of}
-use Rattle.types.specs.declared.refusals.Refusal.{Refusal}
+use Rattle.std.specs.Prelude.{if◌then◌else◌}
+use Rattle.types.specs.Base.{Outcome, refused, accepted, map_outcome, and_then, after}
 
 -- a test on the way was passed, and what comes after it accepts
 pub test_passed : {A : Type 0} (t : Bool) (k : ℕ) (rest : Outcome A) (a : A) → (if t then refused k else rest) ≡ accepted a
