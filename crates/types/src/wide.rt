@@ -35,17 +35,10 @@ impl Wide {
         requires { self.hi < 2 ^ 32 }
         ensures { (wide_of result ≡ wide_of self + x) × (result.hi ≤ self.hi + 1) }
     {
-        let room = u64::MAX - self.lo;
-        if room < x {
-            Wide {
-                hi: self.hi + 1,
-                lo: x - room - 1,
-            }
-        } else {
-            Wide {
-                hi: self.hi,
-                lo: self.lo + x,
-            }
+        let (lo, carries) = self.lo.overflowing_add(x);
+        Wide {
+            hi: self.hi + u64::from(carries),
+            lo,
         }
     }
 
