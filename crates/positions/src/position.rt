@@ -82,13 +82,7 @@ impl From<PositionState> for u64 {
     ghost from_gives = { λ state number. number ≡ state_number state };
 
     fn from(state: PositionState) -> u64 {
-        match state {
-            PositionState::UNLOCKED => 0,
-            PositionState::LOCKING => 1,
-            PositionState::LOCKED => 2,
-            PositionState::PREUNLOCKING => 3,
-            PositionState::UNLOCKING => 4,
-        }
+        state as u64
     }
 }
 
