@@ -1,8 +1,10 @@
 // One side of a publisher's stake: its total, and the change that takes effect with the next epoch.
 #![tactic(auto)]
 
-ghost use Rattle.std.specs.Prelude.{◌≡◌};
-ghost use Rattle.types.specs.Base.{outcome_of, outcome_by};
+ghost use Rattle.std.specs.Prelude.{◌≡◌, ◌≤◌, ◌<◌, Option, ℤ, pos, MatchOption};
+ghost use Rattle.std.specs.Int.{w64, cast_signed, cast_unsigned};
+ghost use Rattle.types.specs.Base.{outcome_of, outcome_by, half, refused, accepted};
+ghost use Rattle.types.specs.Refusals.{does_not_fit};
 ghost use Rattle.delegation.specs.Side.{raised_of, lowered_of, roll_of, add_of, remove_of, slash_of, side_of};
 
 use positions::position::PositionState;
@@ -12,8 +14,24 @@ use types::{Amount, SIGNED_LIMIT};
 #[derive(Clone, Copy, Debug, Default, PartialEq, Eq)]
 pub struct DelegationState {
     pub total_delegation: Amount,
-    // A signed word: from 2^63 on it stands for itself less 2^64.
+    // A signed word: from 2^63 on it stands for itself less 2^64. It is no i64, since the image has words, and a definition speaks of them.
     pub delta_delegation: u64,
+}
+
+// A signed word with an amount added or taken off, by what tells the sum.
+fn change<F: FnOnce(i64, i64) -> Option<i64>>(
+    delta: u64,
+    amount: u64,
+    sum: F,
+) -> Result<u64, Refusal>
+    requires { F.IsAlwaysCallable sum }
+    ensures large { half ≤ amount → outcome_of result ≡ refused does_not_fit }
+    ensures told { amount < half → (s : Option ℤ) × F.post sum (cast_signed w64 delta) (pos amount) s
+        × MatchOption s (outcome_of result ≡ refused does_not_fit) (λ z. outcome_of result ≡ accepted (cast_unsigned w64 z)) }
+{
+    let amount = i64::try_from(amount).map_err(|_| Refusal::DoesNotFit)?;
+    let sum = sum(delta.cast_signed(), amount).ok_or(Refusal::DoesNotFit)?;
+    Ok(sum.cast_unsigned())
 }
 
 // A signed word with an amount added.
@@ -21,12 +39,7 @@ pub struct DelegationState {
 fn raise(delta: u64, amount: u64) -> Result<u64, Refusal>
     ensures { outcome_of result ≡ raised_of delta amount }
 {
-    let amount = i64::try_from(amount).map_err(|_| Refusal::DoesNotFit)?;
-    let raised = delta
-        .cast_signed()
-        .checked_add(amount)
-        .ok_or(Refusal::DoesNotFit)?;
-    Ok(raised.cast_unsigned())
+    change(delta, amount, i64::checked_add)
 }
 
 // A signed word with an amount taken off.
@@ -34,12 +47,7 @@ fn raise(delta: u64, amount: u64) -> Result<u64, Refusal>
 fn lower(delta: u64, amount: u64) -> Result<u64, Refusal>
     ensures { outcome_of result ≡ lowered_of delta amount }
 {
-    let amount = i64::try_from(amount).map_err(|_| Refusal::DoesNotFit)?;
-    let lowered = delta
-        .cast_signed()
-        .checked_sub(amount)
-        .ok_or(Refusal::DoesNotFit)?;
-    Ok(lowered.cast_unsigned())
+    change(delta, amount, i64::checked_sub)
 }
 
 impl DelegationState {
