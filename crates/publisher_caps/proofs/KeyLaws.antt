@@ -154,19 +154,6 @@ module _ (a b c d a' b' c' d' : ℕ) where
   pub less_0 : a < a' → b < word → c < word → d < word → number a b c d < number a' b' c' d'
   less_0 h fb fc fd = pair_high _ (pair_high _ (pair_high _ h fb) fc) fd
 
--- 32 bytes whose first word decides
-pub words_above : (m : List ℕ) → ((i : ℕ) → get_or m i 0 < 256) → (at at' : ℕ) → big_endian m at 8 < big_endian m at' 8
-    → big_endian m at 32 < big_endian m at' 32
-words_above m small at at' h =
-    rw (← four m at _ _ _ _ refl refl refl refl, ← four m at' _ _ _ _ refl refl refl refl)
-    (less_0 _ _ _ _ _ _ _ _ h (bytes_below m small (at + 8) 8) (bytes_below m small (at + 16) 8) (bytes_below m small (at + 24) 8))
-
-pub words_some : (m : List ℕ) (at : ℕ) → 0 < big_endian m at 8 → 0 < big_endian m at 32
-words_some m at h =
-    rw (← four m at _ _ _ _ refl refl refl refl)
-    (rw number_zero at (less_0 0 0 0 0 (big_endian m at 8) (big_endian m (at + 8) 8) (big_endian m (at + 16) 8) (big_endian m (at + 24) 8) h
-    (omega arith) (omega arith) (omega arith)))
-
 -- ---- the order
 
 -- the higher words decide, and where they are the same the lower ones

@@ -27,11 +27,6 @@ abbrev pub key_before : List ℕ → ℕ → ℕ
 key_before m zero = 0
 key_before m (suc i) = key_at m i
 
--- its first word
-abbrev pub first_before : List ℕ → ℕ → ℕ
-first_before m zero = 0
-first_before m (suc i) = big_endian m (11 + i * 40) 8
-
 -- word c of row i's key as the image holds it: the little-endian memory of the same bytes
 unfoldable pub key_word : List ℕ → (i c : ℕ) → ℕ
 key_word m i c = little_endian m (11 + i * 40 + c * 8) 8

@@ -2,10 +2,11 @@
 // 32-byte key and an 8-byte cap, all big-endian.
 #![tactic(auto)]
 
-ghost use Rattle.std.specs.Prelude.{◌≡◌, ◌+◌, ◌*◌, ◌/◌, ◌%◌, ◌^◌, ◌≤◌, ◌<◌, true, ◌&&◌, ltb, length, take, drop, IfSome};
+ghost use Rattle.std.specs.Prelude.{◌≡◌, ◌+◌, ◌-◌, ◌*◌, ◌/◌, ◌%◌, ◌^◌, ◌≤◌, ◌<◌, true, ◌&&◌, ltb, length, take, drop, IfSome};
 ghost use Rattle.std.specs.Option.{unwrap_or};
+ghost use Rattle.std.specs.Simd.{first_chunks};
 ghost use Rattle.publisher_caps.specs.Key.{big_endian, number_of, number_by};
-ghost use Rattle.publisher_caps.specs.Message.{time_of, rows_of, row_of, key_at, key_before, first_before, ascends, none_zero, message_holds, Whole};
+ghost use Rattle.publisher_caps.specs.Message.{time_of, rows_of, row_of, key_at, ascends, none_zero, message_holds, Whole};
 ghost use Rattle.publisher_caps.specs.Lookup.{lookup, AboveFront, BelowRest, Encloses, cap_in};
 
 use crate::key::KeyNumber;
@@ -51,51 +52,22 @@ fn be64(m: &[u8], at: usize) -> u64
     u64::from_be_bytes(bytes(m, at))
 }
 
-// The key at `at`.
+// The first `rows` rows, 40 bytes each.
+#[tactic(auto, using(crate::proofs::RowLaws::rows_taken))]
+fn rows_in(m: &[u8], rows: usize) -> &[[u8; 40]]
+    requires { 11 + rows * 40 ≤ length m.now }
+    ensures rows { result.now ≡ first_chunks 40 rows (drop 11 m.now) }
+    ensures count { length result.now ≡ rows }
+{
+    m[11..11 + rows * 40].as_chunks().0
+}
+
+// A row's key.
 #[tactic(auto, using(crate::proofs::KeyLaws::four))]
-fn key_number(m: &[u8], at: usize) -> KeyNumber
-    requires { at + 32 ≤ length m.now }
-    ensures { number_by result ≡ big_endian m.now at 32 }
+fn key_number(row: &[u8; 40]) -> KeyNumber
+    ensures { number_by result ≡ big_endian row.now 0 32 }
 {
-    KeyNumber(
-        be64(m, at),
-        be64(m, at + 8),
-        be64(m, at + 16),
-        be64(m, at + 24),
-    )
-}
-
-// The key of the row before row i, zero before the first.
-#[tactic(auto, using(crate::proofs::RowLaws::before_first, crate::proofs::RowLaws::before_row))]
-fn key_before(m: &[u8], i: usize) -> KeyNumber
-    requires { 11 + i * 40 ≤ length m.now }
-    ensures { number_by result ≡ key_before m.now i }
-{
-    if i == 0 {
-        return KeyNumber::default();
-    }
-    key_number(m, 11 + (i - 1) * 40)
-}
-
-// Whether the key of row i is above the one before it.
-#[cold]
-#[tactic(auto, using(crate::proofs::KeyLaws::lt_number))]
-fn is_above(m: &[u8], i: usize) -> bool
-    requires { 11 + (i + 1) * 40 ≤ length m.now }
-    ensures { result ≡ ltb (key_before m.now i) (key_at m.now i) }
-{
-    key_before(m, i) < key_number(m, 11 + i * 40)
-}
-
-// The same. Where the first words of both keys tell, as mostly, the rest is not read.
-#[tactic(auto, using(crate::proofs::RowLaws::rises_first))]
-fn rises(m: &[u8], i: usize, before: u64, first: u64) -> bool
-    requires room { 11 + (i + 1) * 40 ≤ length m.now }
-    requires before { before ≡ first_before m.now i }
-    requires first { first ≡ big_endian m.now (11 + i * 40) 8 }
-    ensures { result ≡ ltb (key_before m.now i) (key_at m.now i) }
-{
-    before < first || is_above(m, i)
+    KeyNumber(be64(row, 0), be64(row, 8), be64(row, 16), be64(row, 24))
 }
 
 // Whether the keys of the first `rows` rows ascend strictly and none is zero: each is above the one before it, the first above zero.
@@ -103,13 +75,13 @@ fn ascending(m: &[u8], rows: usize) -> bool
     requires { 11 + rows * 40 ≤ length m.now }
     ensures { result ≡ (ascends m.now rows && none_zero m.now rows) }
 {
-    let mut before = 0;
-    for i in 0..rows {
-        let first = be64(m, 11 + i * 40);
-        if !rises(m, i, before, first) {
+    let mut before = KeyNumber::default();
+    for row in rows_in(m, rows) {
+        let key = key_number(row);
+        if !(before < key) {
             return false;
         }
-        before = first;
+        before = key;
     }
     true
 }
@@ -193,37 +165,47 @@ impl<'a> PublisherCaps<'a> {
         self.rows
     }
 
+    // The bytes of row i.
+    #[tactic(auto, using(crate::proofs::RowLaws::row_at))]
+    fn row(&self, i: usize) -> &'a [u8; 40]
+        requires { i < self.now.rows }
+        ensures { result.now ≡ take 40 (drop (11 + i * 40) self.now.message.now) }
+    {
+        &rows_in(self.message, self.rows)[i]
+    }
+
     // Row i.
-    #[tactic(auto, using(crate::proofs::KeyLaws::little_word), unfolding(crate::specs::Message::row_of, crate::specs::Message::key_word))]
+    #[tactic(auto, using(crate::proofs::KeyLaws::little_word, crate::proofs::RowLaws::row_told))]
     pub fn get_cap(&self, i: usize) -> PublisherCap
         requires { i < self.now.rows }
         ensures { result ≡ row_of self.now.message.now i }
     {
-        let at = 11 + i * 40;
+        let row = self.row(i);
         PublisherCap {
             pubkey: Key(
-                u64::from_le_bytes(bytes(self.message, at)),
-                u64::from_le_bytes(bytes(self.message, at + 8)),
-                u64::from_le_bytes(bytes(self.message, at + 16)),
-                u64::from_le_bytes(bytes(self.message, at + 24)),
+                u64::from_le_bytes(bytes(row, 0)),
+                u64::from_le_bytes(bytes(row, 8)),
+                u64::from_le_bytes(bytes(row, 16)),
+                u64::from_le_bytes(bytes(row, 24)),
             ),
-            cap: be64(self.message, at + 32),
+            cap: be64(row, 32),
         }
     }
 
     // The cap of a row that was found, 0 for none.
+    #[tactic(auto, using(crate::proofs::RowLaws::row_cap_at))]
     pub fn cap(&self, found: Option<usize>) -> u64
         requires { IfSome found (λ i. i < self.now.rows) }
         ensures { result ≡ cap_in self.now.message.now found }
     {
         match found {
-            Some(i) => be64(self.message, 11 + i * 40 + 32),
+            Some(i) => be64(self.row(i), 32),
             None => 0,
         }
     }
 
     // In which of so many equal parts of all keys the key of row i is.
-    #[tactic(auto, using(crate::proofs::KeyLaws::big_half))]
+    #[tactic(auto, using(crate::proofs::KeyLaws::big_half, crate::proofs::RowLaws::row_half))]
     pub fn row_part(&self, i: usize, parts: usize) -> usize
         requires row { i < self.now.rows }
         requires parts_low { 0 < parts }
@@ -231,15 +213,16 @@ impl<'a> PublisherCaps<'a> {
         ensures part { result ≡ big_endian self.now.message.now (11 + i * 40) 2 * parts / 2 ^ 16 }
         ensures below { result < parts }
     {
-        part_of(u16::from_be_bytes(bytes(self.message, 11 + i * 40)), parts)
+        part_of(u16::from_be_bytes(bytes(self.row(i), 0)), parts)
     }
 
     // The key of row i.
+    #[tactic(auto, using(crate::proofs::RowLaws::row_key_at))]
     fn key(&self, i: usize) -> KeyNumber
         requires { i < self.now.rows }
         ensures { number_by result ≡ key_at self.now.message.now i }
     {
-        key_number(self.message, 11 + i * 40)
+        key_number(self.row(i))
     }
 
     // The row of a key among `rows` rows from `from` on, MAX_CAPS for none: of an Option the compiler makes no loop of these
