@@ -1,5 +1,5 @@
 -- What the contracts here fix: any two results of the same inputs are the same, or agree in all that may be read. Assumes nothing.
-use Rattle.std.proofs.Common.{◌≡◌, ℕ, ◌+◌, ◌*◌, ◌<◌, ◌≤◌, Bool, true, false, ltb, List, get_or, sym, refl, ap, ◌∙◌, ltb-false, ltb-true}
+use Rattle.std.proofs.Common.{◌≡◌, ℕ, ◌<◌, ◌≤◌, Bool, true, false, ltb, List, [], get_or, sym, refl, ap, ◌∙◌, ltb-false, ltb-true}
 use Rattle.types.specs.Base.{word}
 use Rattle.types.specs.BoolArray.{marked}
 use Rattle.types.proofs.Fixed.{wide_of_fixes, MarkWords, marks_fix}
@@ -29,21 +29,15 @@ abbrev pub SameCaps : (seats : ℕ) → List ℕ → List ℕ → Type 0
 SameCaps seats a b = (s : ℕ) → s < seats → get_or a s 0 ≡ get_or b s 0
 
 -- the ratios and the fee of each of the first seats
-pub record SameShares (seats : ℕ) (a b : List ℕ) : Type 0 where
-  pub self : (s : ℕ) → s < seats → get_or a (s * 3) 0 ≡ get_or b (s * 3) 0
-  pub other : (s : ℕ) → s < seats → get_or a (s * 3 + 1) 0 ≡ get_or b (s * 3 + 1) 0
-  pub fee : (s : ℕ) → s < seats → get_or a (s * 3 + 2) 0 ≡ get_or b (s * 3 + 2) 0
+abbrev pub SameShares : (seats : ℕ) → (a b : List (List ℕ)) → Type 0
+SameShares seats a b = (s : ℕ) → s < seats → get_or a s [] ≡ get_or b s []
 
-pub record SameTables {P W : ℕ} (seats : ℕ) (t u : SeatTable P W) : Type 0 where
+pub record SameTables {P : ℕ} (seats : ℕ) (t u : SeatTable P) : Type 0 where
   pub first : SameShares seats t.first_shares u.first_shares
   pub later : SameShares seats t.later_shares u.later_shares
 
-shared_same : {w : Words} {cap : ℕ → ℕ} {k seats : ℕ} {a b : List ℕ} → Shared w cap k seats a → Shared w cap k seats b → SameShares seats a b
-shared_same x y = record {
-  self = λ s l. x.self s l ∙ sym (y.self s l);
-  other = λ s l. x.other s l ∙ sym (y.other s l);
-  fee = λ s l. x.fee s l ∙ sym (y.fee s l);
-}
+shared_same : {w : Words} {cap : ℕ → ℕ} {k seats : ℕ} {a b : List (List ℕ)} → Shared w cap k seats a → Shared w cap k seats b → SameShares seats a b
+shared_same x y s l = x.share s l ∙ sym (y.share s l)
 
 -- marks that are told below a number of rows, and are none from there on
 marks_same : (rows : ℕ) (f : ℕ → Bool) (a b : List ℕ) → MarkWords a → MarkWords b
@@ -64,7 +58,7 @@ matched_fixes w m seats caps words caps' words' ma mb x y =
     (λ s l. x.cap s l ∙ sym (y.cap s l), marks_same (rows_of m) _ words words' ma mb x.mark y.mark x.rest y.rest)
 
 -- the seats' words of both lists; words behind them are open
-pub tabled_fixes : {P W : ℕ} (w : Words) (cap : ℕ → ℕ) (seats : ℕ) (t u : SeatTable P W) → Tabled w cap seats t → Tabled w cap seats u → SameTables seats t u
+pub tabled_fixes : {P : ℕ} (w : Words) (cap : ℕ → ℕ) (seats : ℕ) (t u : SeatTable P) → Tabled w cap seats t → Tabled w cap seats u → SameTables seats t u
 tabled_fixes w cap seats t u x y = record { first = shared_same x.first y.first; later = shared_same x.later y.later }
 
 -- the caps of the seats; others are open
@@ -72,7 +66,7 @@ pub capped_fixes : (w : Words) (m : List ℕ) (seats : ℕ) (caps caps' : List �
 capped_fixes w m seats caps caps' x y s l = x.cap s l ∙ sym (y.cap s l)
 
 -- with the figures, which have an equation of their own, the whole plan, and the seats' words of both lists
-pub worked_fixes : {Q W : ℕ} (P : ℕ) (w : Words) (m : List ℕ) (epoch : ℕ) (t u : SeatTable Q W) (a b : AdvancePlan)
+pub worked_fixes : {Q : ℕ} (P : ℕ) (w : Words) (m : List ℕ) (epoch : ℕ) (t u : SeatTable Q) (a b : AdvancePlan)
     → MarkWords a.marks.words → MarkWords b.marks.words → planned_as a ≡ planned_as b
     → Worked P w m a t epoch → Worked P w m b u epoch → (a ≡ b) × SameTables a.seats t u
 worked_fixes P w m epoch t u a b ma mb e x y = (whole, tables)

@@ -232,7 +232,7 @@ module _ (every_rolled : Bool) (P : ℕ) (w : Words) (m : List ℕ) (g : Given) 
                 subst (λ (k : ℕ). all_below k (seat_rolls w) ≡ true) es (sums_accepted w (λ (s : ℕ). get_or caps s 0) seats sums h).0 in
                 a ∙ adjust_read ∙ rw (ef, total_is, passed_is P w m g passed due) (fits_rest P w g _ rolls) ∙ (due_says P w m g passed due _).2
 
-            pub all_worked : {Q W : ℕ} (t : SeatTable Q W) (plan : AdvancePlan) → Tabled w (λ (s : ℕ). get_or caps s 0) seats t → seats ≤ Q → plan.seats ≡ seats
+            pub all_worked : {Q : ℕ} (t : SeatTable Q) (plan : AdvancePlan) → Tabled w (λ (s : ℕ). get_or caps s 0) seats t → seats ≤ Q → plan.seats ≡ seats
                 → plan.marks.words ≡ marks
                 → accepted (planned_as plan) ≡ adjust_fit r n passed claimable g → g.pool_reward_custody_balance < word
                 → Worked P w m plan t g.current_epoch
@@ -243,16 +243,8 @@ module _ (every_rolled : Bool) (P : ℕ) (w : Words) (m : List ℕ) (g : Given) 
                   seats_is = ep ∙ es;
                   rolls = rw ep ((sums_accepted w (λ (s : ℕ). get_or caps s 0) seats sums h).0);
                   table = rw ep (record {
-                    first = record {
-                      self = λ s l. rw (← mt.cap s l) (tb.first.self s l);
-                      other = λ s l. rw (← mt.cap s l) (tb.first.other s l);
-                      fee = tb.first.fee;
-                    };
-                    later = record {
-                      self = λ s l. rw (← mt.cap s l) (tb.later.self s l);
-                      other = λ s l. rw (← mt.cap s l) (tb.later.other s l);
-                      fee = tb.later.fee;
-                    };
+                    first = record { share = λ s l. rw (← mt.cap s l) (tb.first.share s l) };
+                    later = record { share = λ s l. rw (← mt.cap s l) (tb.later.share s l) };
                   });
                   room = omega arith;
                   marks = rw (ep, em) mt.mark;

@@ -93,7 +93,7 @@ module _ (w : Words) (m : List ℕ) (s : ℕ) (caps words : List ℕ) (h : Match
         let found : r ≡ lookup m k 0 (rows_of m) = rw er at lk in
         let so = lookup_says m k (rows_of m) r found in
         record {
-          cap = list_more (seat_cap w m) caps s v h.cap lt (ev ∙ cap_is r found);
+          cap = list_more 0 (seat_cap w m) caps s v h.cap lt (ev ∙ cap_is r found);
           mark = λ j l. rw ew (marks_more r so j l);
           rest = λ j l. rw ew (rest_more r so j l);
         }
@@ -110,7 +110,7 @@ rest_none f rows zero h = ap (λ (n : ℕ). count_below n f) (add-zero rows)
 rest_none f rows (suc d) h = rw (add-suc rows d, count_more f (rows + d), h (rows + d) (omega arith)) (let r = rest_none f rows d h in omega arith)
 
 -- the marks' counts are those of the answer
-module _ {Q W P : ℕ} {w : Words} {m : List ℕ} {plan : AdvancePlan} {t : SeatTable Q W} {epoch : ℕ} (z : Worked P w m plan t epoch) (whole : Whole m) where
+module _ {Q P : ℕ} {w : Words} {m : List ℕ} {plan : AdvancePlan} {t : SeatTable Q} {epoch : ℕ} (z : Worked P w m plan t epoch) (whole : Whole m) where
   marked_rows_law : marked_rows plan.marks.words ≡ count_below (rows_of m) (matched_row w m plan.seats)
   marked_rows_law =
       let few : rows_of m ≤ 1_024 = whole.few in

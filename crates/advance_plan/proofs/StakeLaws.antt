@@ -1,6 +1,6 @@
 -- What a seat comes to, one law for each way out of the code, and the sums and lists, seat by seat. Assumes nothing.
-use Rattle.std.proofs.Common.{◌≡◌, ℕ, ◌+◌, ◌*◌, ◌<◌, ◌≤◌, Bool, true, false, List, length, get_or, set, sym}
-use Rattle.std.proofs.Common.{refl, ap, ◌∙◌, subst, arith, length-set, get_or-set_other, get_or-set_same}
+use Rattle.std.proofs.Common.{◌≡◌, ℕ, ◌+◌, ◌<◌, ◌≤◌, Bool, true, false, List, [], length, get_or, set, sym}
+use Rattle.std.proofs.Common.{refl, ap, ◌∙◌, subst, arith, get_or-set_other, get_or-set_same}
 use native.Mathlib.Decide.{ℕ_discrete}
 use Rattle.std.specs.Prelude.{if◌then◌else◌}
 use Rattle.types.specs.Base.{Outcome, refused, accepted, sum_below, all_below}
@@ -17,16 +17,16 @@ use Rattle.advance_plan.specs.declared.stake.SeatEligible.{SeatEligible}
 use Rattle.advance_plan.specs.declared.stake.SeatEpochs.{SeatEpochs}
 use Rattle.advance_plan.specs.declared.table.SeatTable.{SeatTable}
 use Rattle.advance_plan.specs.Advance.{seat_rolls, eligible_at, ratio_at, eligible_in, ratio_in}
-use Rattle.advance_plan.specs.Stake.{seat_eligible, seat_in, seat_epochs, sums_of, with_shares, Shared, Tabled}
+use Rattle.advance_plan.specs.Stake.{seat_eligible, seat_in, seat_epochs, sums_of, shares_of, Shared, Tabled}
 
 -- a list filled up to n, one more
-pub list_more : (f : ℕ → ℕ) (l : List ℕ) (n v : ℕ) → ((i : ℕ) → i < n → get_or l i 0 ≡ f i) → n < length l → v ≡ f n → (i : ℕ) → i < n + 1
-    → get_or (set l n v) i 0 ≡ f i
-list_more f l n v h r e i lt = go (ℕ_discrete i n)
+pub list_more : {A : Type 0} (d : A) (f : ℕ → A) (l : List A) (n : ℕ) (v : A) → ((i : ℕ) → i < n → get_or l i d ≡ f i) → n < length l → v ≡ f n
+    → (i : ℕ) → i < n + 1 → get_or (set l n v) i d ≡ f i
+list_more d f l n v h r e i lt = go (ℕ_discrete i n)
   where
-    go : Dec (i ≡ n) → get_or (set l n v) i 0 ≡ f i
-    go (yes q) = rw q (get_or-set_same l n v 0 r ∙ e)
-    go (no q) = get_or-set_other l n i v 0 q ∙ h i (omega arith)
+    go : Dec (i ≡ n) → get_or (set l n v) i d ≡ f i
+    go (yes q) = rw q (get_or-set_same l n v d r ∙ e)
+    go (no q) = get_or-set_other l n i v d q ∙ h i (omega arith)
 
 -- ---- two sides under a cap
 
@@ -115,16 +115,16 @@ module _ (w : Words) (cap s : ℕ) where
 -- ---- the loop over the seats
 
 -- the first n seats: all of them roll; the sums over them, and the table
-pub record Summed {P W : ℕ} (w : Words) (cap : ℕ → ℕ) (n : ℕ) (t : SeatTable P W) (first later : ℕ) : Type 0 where
+pub record Summed {P : ℕ} (w : Words) (cap : ℕ → ℕ) (n : ℕ) (t : SeatTable P) (first later : ℕ) : Type 0 where
   pub rolls : all_below n (seat_rolls w) ≡ true
   pub first_sum : first ≡ sum_below n (eligible_in w cap 0)
   pub later_sum : later ≡ sum_below n (eligible_in w cap 1)
   pub table : Tabled w cap n t
 
-shared_none : (w : Words) (cap : ℕ → ℕ) (k : ℕ) (l : List ℕ) → Shared w cap k 0 l
-shared_none w cap k l = record { self = λ s l. absurd (omega arith); other = λ s l. absurd (omega arith); fee = λ s l. absurd (omega arith) }
+shared_none : (w : Words) (cap : ℕ → ℕ) (k : ℕ) (l : List (List ℕ)) → Shared w cap k 0 l
+shared_none w cap k l = record { share = λ s l. absurd (omega arith) }
 
-pub summed_none : {P W : ℕ} (w : Words) (cap : ℕ → ℕ) (t : SeatTable P W) → Summed w cap 0 t 0 0
+pub summed_none : {P : ℕ} (w : Words) (cap : ℕ → ℕ) (t : SeatTable P) → Summed w cap 0 t 0 0
 summed_none w cap t = record {
   rolls = all_none _;
   first_sum = sum_none _;
@@ -132,101 +132,38 @@ summed_none w cap t = record {
   table = record { first = shared_none w cap 0 t.first_shares; later = shared_none w cap 1 t.later_shares };
 }
 
--- a seat's fields in the k-th passed epoch
-seat_fields : (w : Words) (cap : ℕ → ℕ) (k s : ℕ) (x : SeatEligible) → x ≡ seat_in w (cap s) k s
-    → (x.total_eligible_delegation.0 ≡ eligible_in w cap k s) × (x.self_reward_ratio.0 ≡ ratio_in w cap k s self) ×
-    (x.other_reward_ratio.0 ≡ ratio_in w cap k s other)
-unfolding seat_eligible eligible_in ratio_in
-seat_fields w cap k s x e = (
-  ap (λ (v : SeatEligible). v.total_eligible_delegation.0) e,
-  ap (λ (v : SeatEligible). v.self_reward_ratio.0) e,
-  ap (λ (v : SeatEligible). v.other_reward_ratio.0) e,
-)
+-- a seat's total in the k-th passed epoch
+seat_total : (w : Words) (cap : ℕ → ℕ) (k s : ℕ) (x : SeatEligible) → x ≡ seat_in w (cap s) k s → x.total_eligible_delegation.0 ≡ eligible_in w cap k s
+unfolding seat_eligible eligible_in
+seat_total w cap k s x e = ap (λ (v : SeatEligible). v.total_eligible_delegation.0) e
 
 -- a list with the words of one more seat
-pub shares_length : (l : List ℕ) (s : ℕ) (x : SeatEligible) (fee : ℕ) (r : List ℕ) → r ≡ with_shares l s x fee → length r ≡ length l
-unfolding with_shares
-shares_length l s x fee r e = ap length e ∙ simp length-set
+shared_more : (w : Words) (cap : ℕ → ℕ) (k s : ℕ) (l : List (List ℕ)) (x : SeatEligible) (fee : ℕ) → Shared w cap k s l → s < length l
+    → x ≡ seat_in w (cap s) k s → fee ≡ w (seat s delegation_fees) → Shared w cap k (s + 1) (set l s (shares_of x fee))
+unfolding seat_eligible ratio_in
+shared_more w cap k s l x fee h room e ef = record { share = list_more [] _ l s (shares_of x fee) h.share room (rw (e, ef)) }
 
-module _ (l : List ℕ) (s : ℕ) (x : SeatEligible) (fee : ℕ) (room : s * 3 + 3 ≤ length l) where
-  abbrev anew : List ℕ
-  anew = with_shares l s x fee
-
-  abbrev one : List ℕ
-  one = set l (s * 3) x.self_reward_ratio.0
-
-  abbrev two : List ℕ
-  two = set one (s * 3 + 1) x.other_reward_ratio.0
-
-  -- its words
-  here_self : get_or anew (s * 3) 0 ≡ x.self_reward_ratio.0
-  unfolding with_shares
-  here_self =
-      get_or-set_other two (s * 3 + 2) (s * 3) fee 0 (λ e. omega arith)
-      ∙ get_or-set_other one (s * 3 + 1) (s * 3) x.other_reward_ratio.0 0 (λ e. omega arith)
-      ∙ get_or-set_same l (s * 3) x.self_reward_ratio.0 0 (omega arith)
-
-  here_other : get_or anew (s * 3 + 1) 0 ≡ x.other_reward_ratio.0
-  unfolding with_shares
-  here_other =
-      get_or-set_other two (s * 3 + 2) (s * 3 + 1) fee 0 (λ e. omega arith)
-      ∙ get_or-set_same one (s * 3 + 1) x.other_reward_ratio.0 0 (simp length-set (omega arith))
-
-  here_fee : get_or anew (s * 3 + 2) 0 ≡ fee
-  unfolding with_shares
-  here_fee = get_or-set_same two (s * 3 + 2) fee 0 (simp length-set (omega arith))
-
-  -- those of the seats in front
-  front : (i : ℕ) → i < s * 3 → get_or anew i 0 ≡ get_or l i 0
-  unfolding with_shares
-  front i h =
-      get_or-set_other two (s * 3 + 2) i fee 0 (λ e. omega arith)
-      ∙ get_or-set_other one (s * 3 + 1) i x.other_reward_ratio.0 0 (λ e. omega arith)
-      ∙ get_or-set_other l (s * 3) i x.self_reward_ratio.0 0 (λ e. omega arith)
-
-  pub shared_more : (w : Words) (cap : ℕ → ℕ) (k : ℕ) → Shared w cap k s l → x.self_reward_ratio.0 ≡ ratio_in w cap k s self
-      → x.other_reward_ratio.0 ≡ ratio_in w cap k s other → fee ≡ w (seat s delegation_fees) → Shared w cap k (s + 1) anew
-  shared_more w cap k h ea eb ef = record {
-    self = λ q lq. own q lq (ℕ_discrete q s);
-    other = λ q lq. others q lq (ℕ_discrete q s);
-    fee = λ q lq. fees q lq (ℕ_discrete q s);
-  }
-    where
-      own : (q : ℕ) → q < s + 1 → Dec (q ≡ s) → get_or anew (q * 3) 0 ≡ ratio_in w cap k q self
-      own q lq (yes e) = rw e (here_self ∙ ea)
-      own q lq (no ne) = front (q * 3) (omega arith) ∙ h.self q (omega arith)
-
-      others : (q : ℕ) → q < s + 1 → Dec (q ≡ s) → get_or anew (q * 3 + 1) 0 ≡ ratio_in w cap k q other
-      others q lq (yes e) = rw e (here_other ∙ eb)
-      others q lq (no ne) = front (q * 3 + 1) (omega arith) ∙ h.other q (omega arith)
-
-      fees : (q : ℕ) → q < s + 1 → Dec (q ≡ s) → get_or anew (q * 3 + 2) 0 ≡ w (seat q delegation_fees)
-      fees q lq (yes e) = rw e (here_fee ∙ ef)
-      fees q lq (no ne) = front (q * 3 + 2) (omega arith) ∙ h.fee q (omega arith)
-
-pub summed_more : {P W : ℕ} (w : Words) (cap : ℕ → ℕ) (s : ℕ) (t u : SeatTable P W) (x y : ℕ) → Summed w cap s t x y → (r : SeatEpochs)
+pub summed_more : {P : ℕ} (w : Words) (cap : ℕ → ℕ) (s : ℕ) (t u : SeatTable P) (x y : ℕ) → Summed w cap s t x y → (r : SeatEpochs)
     → accepted r ≡ seat_epochs w (cap s) s
     → (x' y' v : ℕ) → x' ≡ x + r.first.total_eligible_delegation.0 → y' ≡ y + r.later.total_eligible_delegation.0 → v ≡ w (seat s delegation_fees)
-    → s * 3 + 3 ≤ length t.first_shares → s * 3 + 3 ≤ length t.later_shares
-    → u.first_shares ≡ with_shares t.first_shares s r.first v → u.later_shares ≡ with_shares t.later_shares s r.later v
+    → s < length t.first_shares → s < length t.later_shares
+    → u.first_shares ≡ set t.first_shares s (shares_of r.first v) → u.later_shares ≡ set t.later_shares s (shares_of r.later v)
     → Summed w cap (s + 1) u x' y'
 summed_more w cap s t u x y h r e x' y' v ex ey ev la lb qa qb =
     let says = seat_says w (cap s) s r e in
-    let f = seat_fields w cap 0 s r.first says.1 in
-    let g = seat_fields w cap 1 s r.later says.2 in
     record {
       rolls = all_more _ s h.rolls says.0;
-      first_sum = omega (arith, h.first_sum, f.0, sum_more (eligible_in w cap 0) s);
-      later_sum = omega (arith, h.later_sum, g.0, sum_more (eligible_in w cap 1) s);
+      first_sum = omega (arith, h.first_sum, seat_total w cap 0 s r.first says.1, sum_more (eligible_in w cap 0) s);
+      later_sum = omega (arith, h.later_sum, seat_total w cap 1 s r.later says.2, sum_more (eligible_in w cap 1) s);
       table = record {
-        first = subst (Shared w cap 0 (s + 1)) (sym qa) (shared_more t.first_shares s r.first v la w cap 0 h.table.first f.1 f.2 ev);
-        later = subst (Shared w cap 1 (s + 1)) (sym qb) (shared_more t.later_shares s r.later v lb w cap 1 h.table.later g.1 g.2 ev);
+        first = subst (Shared w cap 0 (s + 1)) (sym qa) (shared_more w cap 0 s t.first_shares r.first v h.table.first la says.1 ev);
+        later = subst (Shared w cap 1 (s + 1)) (sym qb) (shared_more w cap 1 s t.later_shares r.later v h.table.later lb says.2 ev);
       };
     }
 
 -- ---- the sums' answer
 
-pub sums_done : {P W : ℕ} (w : Words) (cap : ℕ → ℕ) (s seats : ℕ) (t : SeatTable P W) (x y : ℕ) → s ≡ seats → Summed w cap s t x y
+pub sums_done : {P : ℕ} (w : Words) (cap : ℕ → ℕ) (s seats : ℕ) (t : SeatTable P) (x y : ℕ) → s ≡ seats → Summed w cap s t x y
     → accepted (record { first = x; later = y }) ≡ sums_of w cap seats
 unfolding sums_of
 sums_done w cap s seats t x y e h = rw (← e) (rw (h.rolls, h.first_sum, h.later_sum))

@@ -52,7 +52,7 @@ abbrev pub planned_as : AdvancePlan → Adjustment
 planned_as plan = record { y = plan.y.0; set_aside = plan.set_aside.0 }
 
 -- all that a writer of the advance needs
-pub record Worked {Q W : ℕ} (P : ℕ) (w : Words) (m : List ℕ) (plan : AdvancePlan) (t : SeatTable Q W) (epoch : ℕ) : Type 0 where
+pub record Worked {Q : ℕ} (P : ℕ) (w : Words) (m : List ℕ) (plan : AdvancePlan) (t : SeatTable Q) (epoch : ℕ) : Type 0 where
   pub seats_is : plan.seats ≡ seats_of P w
   pub rolls : all_below plan.seats (seat_rolls w) ≡ true
   pub table : Tabled w (seat_cap w m) plan.seats t

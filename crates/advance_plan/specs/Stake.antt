@@ -1,5 +1,5 @@
 -- Eligible amounts and ratios as the code holds them: of one seat, and of all seats with their table. Assumes nothing.
-use Rattle.std.specs.Prelude.{◌≡◌, ℕ, zero, suc, ◌+◌, ◌*◌, ◌<◌, List, slice_index, slice_set, if◌then◌else◌}
+use Rattle.std.specs.Prelude.{◌≡◌, ℕ, zero, suc, ◌<◌, List, [], ◌∷◌, flat_map, slice_index, slice_index_or, if◌then◌else◌}
 use Rattle.types.specs.Base.{Outcome, refused, accepted, sum_below, all_below}
 use Rattle.types.specs.Refusals.{does_not_fit}
 use Rattle.types.specs.Wide.{wide_of}
@@ -46,25 +46,23 @@ sums_as sums = record { first = wide_of sums.first; later = wide_of sums.later }
 
 -- ---- the table
 
--- a list with seat s's words in an event: self ratio, other ratio, fee
-unfoldable pub with_shares : List ℕ → (s : ℕ) → SeatEligible → (fee : ℕ) → List ℕ
-with_shares l s x fee = slice_set (slice_set (slice_set l (s * 3) x.self_reward_ratio.0) (s * 3 + 1) x.other_reward_ratio.0) (s * 3 + 2) fee
+-- a seat's words in an event: self ratio, other ratio, fee
+abbrev pub shares_of : SeatEligible → (fee : ℕ) → List ℕ
+shares_of x fee = x.self_reward_ratio.0 ∷ x.other_reward_ratio.0 ∷ fee ∷ []
 
--- a list is right for the first n seats in the k-th passed epoch
-pub record Shared (w : Words) (cap : ℕ → ℕ) (k n : ℕ) (l : List ℕ) : Type 0 where
-  pub self : (s : ℕ) → s < n → slice_index l (s * 3) ≡ ratio_in w cap k s self
-  pub other : (s : ℕ) → s < n → slice_index l (s * 3 + 1) ≡ ratio_in w cap k s other
-  pub fee : (s : ℕ) → s < n → slice_index l (s * 3 + 2) ≡ w (seat s delegation_fees)
+-- a list has these words of each of the first n seats in the k-th passed epoch
+pub record Shared (w : Words) (cap : ℕ → ℕ) (k n : ℕ) (l : List (List ℕ)) : Type 0 where
+  pub share : (s : ℕ) → s < n → slice_index_or l s [] ≡ ratio_in w cap k s self ∷ ratio_in w cap k s other ∷ w (seat s delegation_fees) ∷ []
 
 -- both of its lists are: one for the first passed epoch, one for every later one
-pub record Tabled {P W : ℕ} (w : Words) (cap : ℕ → ℕ) (n : ℕ) (t : SeatTable P W) : Type 0 where
+pub record Tabled {P : ℕ} (w : Words) (cap : ℕ → ℕ) (n : ℕ) (t : SeatTable P) : Type 0 where
   pub first : Shared w cap 0 n t.first_shares
   pub later : Shared w cap 1 n t.later_shares
 
--- the list for the k-th passed epoch
-abbrev pub shares_in : {P W : ℕ} → SeatTable P W → (k : ℕ) → List ℕ
-shares_in t zero = t.first_shares
-shares_in t (suc k) = t.later_shares
+-- the words for the k-th passed epoch, seat after seat
+abbrev pub shares_in : {P : ℕ} → SeatTable P → (k : ℕ) → List ℕ
+shares_in t zero = flat_map (λ x. x) t.first_shares
+shares_in t (suc k) = flat_map (λ x. x) t.later_shares
 
 -- the caps of the first n seats' keys are in a list
 pub record Capped (w : Words) (m : List ℕ) (n : ℕ) (caps : List ℕ) : Type 0 where

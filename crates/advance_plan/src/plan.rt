@@ -49,14 +49,15 @@ fn adjust(
 }
 
 // y' and the amount set aside, or refusals 7, 8, 13 for a negative time, 9, other 13, 14; each seat's cap, ratios and fee go to the table.
-// `every_rolled` is the forecast's reading: every passed epoch at the rolled totals.
+// `every_rolled` is the forecast's reading: every passed epoch at the rolled totals. A `bool`, as the definition
+// `sum_of` takes it: the readings differ in one number, the first epoch's sum, so an enum would be a second name for them.
 #[tactic(auto, using(crate::proofs::PlanLaws::plans, image::proofs::SeatLaws::seats_le))]
-pub fn plan<const P: usize, const W: usize>(
+pub fn plan<const P: usize>(
     pool: PoolData<'_>,
     caps: PublisherCaps<'_>,
     given: Given,
     every_rolled: bool,
-    table: &mut SeatTable<P, W>,
+    table: &mut SeatTable<P>,
 ) -> Result<AdvancePlan, Refusal>
     requires ready { Ready (words_of pool) given }
     requires room { pool.p ≤ P }

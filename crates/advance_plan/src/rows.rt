@@ -21,7 +21,7 @@ pub struct RowCounts {
 }
 
 // All keys are divided into equal parts, one fewer than there are entries. An entry is the first row of its part, or of a later one. Nothing is
-// proved of the entries: where one is wrong, a row is only found later.
+// proved of the entries: where one is wrong, a row is only found later. An index is never copied, so it has no `Clone`.
 #[derive(Debug, PartialEq, Eq, Drop)]
 struct Index<const ENTRIES: usize> {
     first_rows: [u16; ENTRIES],
@@ -65,11 +65,11 @@ impl<const ENTRIES: usize> Index<ENTRIES> {
 
 // The caps of the first seats, and the marks of the rows of their keys, found by an index of so many entries.
 #[tactic(auto, using(crate::proofs::RowLaws::matched_none))]
-fn match_by<const ENTRIES: usize, const P: usize, const W: usize>(
+fn match_by<const ENTRIES: usize, const P: usize>(
     pool: PoolData<'_>,
     caps: PublisherCaps<'_>,
     seats: usize,
-    table: &mut SeatTable<P, W>,
+    table: &mut SeatTable<P>,
 ) -> BoolArray
     requires some { 2 ≤ ENTRIES }
     requires few { ENTRIES ≤ 4096 }
@@ -93,11 +93,11 @@ fn match_by<const ENTRIES: usize, const P: usize, const W: usize>(
 }
 
 // The same by an index with at least two parts for each row, so that most parts have one row at most; a longer one would take longer to clear.
-pub fn match_rows<const P: usize, const W: usize>(
+pub fn match_rows<const P: usize>(
     pool: PoolData<'_>,
     caps: PublisherCaps<'_>,
     seats: usize,
-    table: &mut SeatTable<P, W>,
+    table: &mut SeatTable<P>,
 ) -> BoolArray
     requires seats { seats ≤ pool.p }
     requires room { pool.p ≤ P }
@@ -106,10 +106,10 @@ pub fn match_rows<const P: usize, const W: usize>(
     ensures later { table.new.later_shares ≡ table.old.later_shares }
 {
     match caps.rows {
-        0..=16 => match_by::<33, P, W>(pool, caps, seats, table),
-        17..=64 => match_by::<129, P, W>(pool, caps, seats, table),
-        65..=256 => match_by::<513, P, W>(pool, caps, seats, table),
-        _ => match_by::<2049, P, W>(pool, caps, seats, table),
+        0..=16 => match_by::<33, P>(pool, caps, seats, table),
+        17..=64 => match_by::<129, P>(pool, caps, seats, table),
+        65..=256 => match_by::<513, P>(pool, caps, seats, table),
+        _ => match_by::<2049, P>(pool, caps, seats, table),
     }
 }
 

@@ -3,7 +3,7 @@ ghost use Rattle.std.specs.Prelude.{◌≡◌, ◌+◌, ◌-◌, ◌*◌, ◌<�
 ghost use Rattle.types.specs.Base.{outcome_of, outcome_by};
 ghost use Rattle.types.specs.Wide.{wide_of, fit_of};
 ghost use Rattle.image.specs.Pool.{words_of};
-ghost use Rattle.advance_plan.specs.Stake.{seat_eligible, seat_epochs, with_shares, Tabled, sums_of, sums_as};
+ghost use Rattle.advance_plan.specs.Stake.{seat_eligible, seat_epochs, shares_of, Tabled, sums_of, sums_as};
 
 use crate::table::SeatTable;
 use event::eligible::EligibleDelegationData;
@@ -32,6 +32,15 @@ pub struct SeatEpochs {
 pub struct EligibleSums {
     pub first: Wide,
     pub later: Wide,
+}
+
+impl SeatEligible {
+    // The seat's words in an event: its self ratio, other ratio and fee.
+    fn shares(self, fee: u64) -> [u64; 3]
+        ensures { result ≡ shares_of self fee }
+    {
+        [self.self_reward_ratio.0, self.other_reward_ratio.0, fee]
+    }
 }
 
 #[tactic(auto, using(crate::proofs::StakeLaws::eligibles))]
@@ -63,21 +72,9 @@ fn eligible_at_seat(pool: PoolData<'_>, s: usize, cap: Amount) -> Result<SeatEpo
     })
 }
 
-// The words of seat s in an event: its self ratio, other ratio and fee.
-#[tactic(auto, unfolding(crate::specs::Stake::with_shares))]
-fn set_shares(shares: &mut [u64], s: usize, seat: SeatEligible, fee: u64)
-    requires few { s < 1024 }
-    requires room { s * 3 + 3 ≤ length shares.old }
-    ensures { shares.new ≡ with_shares shares.old s seat fee }
-{
-    let at = s * 3;
-    shares[at] = seat.self_reward_ratio.0;
-    shares[at + 1] = seat.other_reward_ratio.0;
-    shares[at + 2] = fee;
-}
-
 impl EligibleSums {
-    // The sum over the passed epochs, where it is a word: T, or with every epoch at the rolled totals.
+    // The sum over the passed epochs, where it is a word: T, or with every epoch at the rolled totals, the
+    // definitions' two readings.
     pub fn over(self, passed: u64, every_rolled: bool) -> Option<u64>
         requires { 1 ≤ passed }
         ensures { result ≡ fit_of ((if every_rolled then wide_of self.later else wide_of self.first) + (passed - 1) * wide_of self.later) }
@@ -87,11 +84,12 @@ impl EligibleSums {
     }
 }
 
-// The first seats' ratios and fees go to the table, under the caps that it has. 13 where a side does not roll.
-pub fn sum_eligible<const P: usize, const W: usize>(
+// The first seats' ratios and fees go to the table, under the caps that it has. 13 where a side does not roll. `seats`
+// is the pool's own count, read once by the caller.
+pub fn sum_eligible<const P: usize>(
     pool: PoolData<'_>,
     seats: usize,
-    table: &mut SeatTable<P, W>,
+    table: &mut SeatTable<P>,
 ) -> Result<EligibleSums, Refusal>
     requires seats { seats ≤ pool.p }
     requires room { pool.p ≤ P }
@@ -99,15 +97,15 @@ pub fn sum_eligible<const P: usize, const W: usize>(
     ensures shares { IfOk result (λ sums. Tabled (words_of pool.entry) (slice_index table.old.caps) seats table.new) }
     ensures caps { table.new.caps ≡ table.old.caps }
 {
-    let mut first_sum = Wide { hi: 0, lo: 0 };
-    let mut later_sum = Wide { hi: 0, lo: 0 };
+    let mut first_sum = Wide::default();
+    let mut later_sum = Wide::default();
     for s in 0..seats {
         let seat = eligible_at_seat(pool, s, Amount(table.caps[s]))?;
         first_sum = first_sum.plus(seat.first.total_eligible_delegation.0);
         later_sum = later_sum.plus(seat.later.total_eligible_delegation.0);
         let fee = pool.delegation_fee(s);
-        set_shares(&mut table.first_shares, s, seat.first, fee);
-        set_shares(&mut table.later_shares, s, seat.later, fee);
+        table.first_shares[s] = seat.first.shares(fee);
+        table.later_shares[s] = seat.later.shares(fee);
     }
     Ok(EligibleSums {
         first: first_sum,

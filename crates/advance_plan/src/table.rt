@@ -3,29 +3,28 @@ ghost use Rattle.std.specs.Prelude.{◌≡◌, ◌*◌, length, replicate};
 
 // Room for P seats: a cap for each, and its three words in an event, self ratio, other ratio and fee: those of the first passed epoch, and of every
 // later one. A short pool has a short table, since clearing a long one would take more than all else.
-// Three arrays, not one of seats: the shares stand as they do in an event, into which they are copied as one slice. W is
-// P * 3 by an invariant, since a length may not be reckoned from another. A table is never copied, so it has no `Clone`.
+// Three arrays, not one of seats: the shares stand as they do in an event, into which they are copied as one slice.
+// A table is never copied, so it has no `Clone`. That a pool's seats have room is asked by each call that takes both: no
+// struct's invariant says it, since P is a constant of the table's type and the pool's p a number that is read.
 #[derive(Debug, PartialEq, Eq, Drop)]
-pub struct SeatTable<const P: usize, const W: usize> {
+pub struct SeatTable<const P: usize> {
     pub caps: [u64; P],
-    pub first_shares: [u64; W],
-    pub later_shares: [u64; W],
-    pub ghost wide: { W ≡ P * 3 },
+    pub first_shares: [[u64; 3]; P],
+    pub later_shares: [[u64; 3]; P],
 }
 
-impl<const P: usize, const W: usize> SeatTable<P, W> {
+impl<const P: usize> SeatTable<P> {
     ghost use Rattle.advance_plan.specs.Stake.{shares_in};
 
-    pub fn new() -> SeatTable<P, W>
-        requires { W ≡ P * 3 }
+    pub fn new() -> SeatTable<P>
         ensures caps { result.caps ≡ replicate P 0 }
-        ensures first { result.first_shares ≡ replicate W 0 }
-        ensures later { result.later_shares ≡ replicate W 0 }
+        ensures first { result.first_shares ≡ replicate P (replicate 3 0) }
+        ensures later { result.later_shares ≡ replicate P (replicate 3 0) }
     {
         SeatTable {
             caps: [0; P],
-            first_shares: [0; W],
-            later_shares: [0; W],
+            first_shares: [[0; 3]; P],
+            later_shares: [[0; 3]; P],
         }
     }
 
@@ -35,9 +34,9 @@ impl<const P: usize, const W: usize> SeatTable<P, W> {
         ensures long { length result.now ≡ P * 3 }
     {
         if k == 0 {
-            &self.first_shares
+            self.first_shares.as_flattened()
         } else {
-            &self.later_shares
+            self.later_shares.as_flattened()
         }
     }
 }

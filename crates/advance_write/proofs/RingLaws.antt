@@ -1,12 +1,13 @@
 -- The ring of events: each slot keeps its newest event, so only the newest E need be written. Then the events' words are those of the definition.
 -- Assumes nothing.
-use Rattle.std.proofs.Common.{◌≡◌, ◌≢◌, ℕ, zero, suc, ◌+◌, ◌-◌, ◌%◌, ◌<◌, ◌≤◌, Bool, true, false, ◌&&◌, eqb, ltb, ◌⊎◌, List}
+use Rattle.std.proofs.Common.{◌≡◌, ◌≢◌, ℕ, zero, suc, ◌+◌, ◌-◌, ◌*◌, ◌%◌, ◌<◌, ◌≤◌, Bool, true, false, ◌&&◌, eqb, ltb, ◌⊎◌, List, [], ◌∷◌, ◌++◌, length, get_or, flat_map}
 use Rattle.std.proofs.Common.{refl, sym, ap, ◌∙◌, inl, inr, ⊎_elim, zero-add, add-suc, arith, eq-eqb, ne_eqb, ltb-true}
+use Rattle.std.proofs.lemmas.List.{get_or_append_left, get_or-append-add}
 use native.Mathlib.Decide.{ℕ_discrete}
 use Rattle.std.specs.Prelude.{if◌then◌else◌}
 use Rattle.types.specs.declared.Ratio.{Ratio}
 use Rattle.image.specs.Layout.{self, other, Head, Seat, Slot, event_epoch, event_y, extra_space, Share}
-use Rattle.image.specs.Layout.{reward_ratio, event_fee, Field, head, seat, slot, share, Words, InRange}
+use Rattle.image.specs.Layout.{delegation_fees, reward_ratio, event_fee, Field, head, seat, slot, share, Words, InRange}
 use Rattle.image.proofs.ListLaws.{lt_or_le}
 use Rattle.image.proofs.AgeLaws.{age, age_lt, slot_of}
 use Rattle.image.specs.declared.pool_data.PoolDataMut.{PoolDataMut}
@@ -14,7 +15,7 @@ use Rattle.image.specs.Pool.{words_in, Becomes}
 use Rattle.image.proofs.PoolLaws.{becomes_reads, becomes_same, becomes_as, becomes_next}
 use Rattle.advance_plan.specs.declared.table.SeatTable.{SeatTable}
 use Rattle.advance_plan.specs.Advance.{slot_word, share_word, ratio_in, event_written, events_after}
-use Rattle.advance_plan.specs.Stake.{Tabled, shares_in}
+use Rattle.advance_plan.specs.Stake.{Shared, Tabled, shares_in}
 use Rattle.advance_write.specs.declared.events.PassedEpochs.{PassedEpochs}
 use Rattle.advance_write.specs.Events.{passed_epochs, share_in, epoch_words, events_words}
 
@@ -93,7 +94,7 @@ module _ (E n t o : ℕ) (pos : 1 ≤ E) (lt : t < E) (c : ℕ → ℕ → ℕ) 
 -- ---- all words
 
 -- once the d events from the first-th on are written
-unfoldable pub late_words : {Q W : ℕ} (E : ℕ) → Words → PassedEpochs → (seats : ℕ) → SeatTable Q W → (first d : ℕ) → Words
+unfoldable pub late_words : {Q : ℕ} (E : ℕ) → Words → PassedEpochs → (seats : ℕ) → SeatTable Q → (first d : ℕ) → Words
 late_words E w x seats t first zero f = w f
 late_words E w x seats t first (suc d) f = epoch_words E (late_words E w x seats t first d) x seats (first + d) (shares_in t (first + d)) f
 
@@ -106,7 +107,7 @@ epoch_same E w v x seats k shares (seat s g) e = e
 epoch_same E w v x seats k shares (slot t g) e = rw e
 epoch_same E w v x seats k shares (share t s g) e = rw e
 
-module _ {Q W : ℕ} (E : ℕ) (w : Words) (x : PassedEpochs) (seats : ℕ) (t : SeatTable Q W) where
+module _ {Q : ℕ} (E : ℕ) (w : Words) (x : PassedEpochs) (seats : ℕ) (t : SeatTable Q) where
   pub late_none : (first d : ℕ) → d ≡ 0 → (f : Field) → w f ≡ late_words E w x seats t first d f
   unfolding late_words
   late_none first d e f = rw e refl
@@ -203,19 +204,39 @@ module _ {Q W : ℕ} (E : ℕ) (w : Words) (x : PassedEpochs) (seats : ℕ) (t :
 
 -- ---- the definition's words
 
-module _ {Q W : ℕ} (E : ℕ) (w : Words) (cap : ℕ → ℕ) (seats epoch : ℕ) (y : Ratio) (t : SeatTable Q W) (tb : Tabled w cap seats t) where
+-- the lists of a list, one after the other
+abbrev flat : List (List ℕ) → List ℕ
+flat l = flat_map (λ (x : List ℕ). x) l
+
+-- word i of list s, where each has three up to there
+flat_word : (l : List (List ℕ)) (s i : ℕ) → ((q : ℕ) → q ≤ s → length (get_or l q []) ≡ 3) → i < 3 → get_or (flat l) (s * 3 + i) 0 ≡ get_or (get_or l s []) i 0
+flat_word [] s i h lt = let z : ◌≡◌ {A = ℕ} 0 3 = h 0 (omega arith) in absurd (omega arith)
+flat_word (x ∷ l) zero i h lt =
+    let e : length x ≡ 3 = h 0 (omega arith) in
+    ap (λ (j : ℕ). get_or (x ++ flat l) j 0) (omega arith) ∙ get_or_append_left x (flat l) 0 i (omega arith)
+flat_word (x ∷ l) (suc s) i h lt =
+    let e : length x ≡ 3 = h 0 (omega arith) in
+    ap (λ (j : ℕ). get_or (x ++ flat l) j 0) (omega arith) ∙ get_or-append-add x (flat l) (s * 3 + i) 0 ∙ flat_word l s i (λ q g. h (suc q) (omega arith)) lt
+
+module _ {w : Words} {cap : ℕ → ℕ} {k seats : ℕ} (l : List (List ℕ)) (h : Shared w cap k seats l) (s : ℕ) (lt : s < seats) where
+  nth_word : (i : ℕ) → i < 3 → get_or (flat l) (s * 3 + i) 0 ≡ get_or (ratio_in w cap k s self ∷ ratio_in w cap k s other ∷ w (seat s delegation_fees) ∷ []) i 0
+  nth_word i b = flat_word l s i (λ q g. ap length (h.share q (omega arith))) b ∙ ap (λ (r : List ℕ). get_or r i 0) (h.share s lt)
+
+  shared_word : (f : Share) → share_in (flat l) s f ≡ share_word w cap k s f
+  shared_word (reward_ratio self) = ap (λ (j : ℕ). get_or (flat l) j 0) (omega arith) ∙ nth_word 0 (omega arith)
+  shared_word (reward_ratio other) = nth_word 1 (omega arith)
+  shared_word event_fee = nth_word 2 (omega arith)
+
+module _ {Q : ℕ} (E : ℕ) (w : Words) (cap : ℕ → ℕ) (seats epoch : ℕ) (y : Ratio) (t : SeatTable Q) (tb : Tabled w cap seats t) where
   abbrev pass : PassedEpochs
   pass = passed_epochs w epoch y
 
   -- the table's words are the ratios and fees of the k-th passed epoch
   table_word : (k s : ℕ) (f : Share) → s < seats → share_in (shares_in t k) s f ≡ share_word w cap k s f
   unfolding ratio_in
-  table_word zero s (reward_ratio self) l = tb.first.self s l
-  table_word zero s (reward_ratio other) l = tb.first.other s l
-  table_word zero s event_fee l = tb.first.fee s l
-  table_word (suc k) s (reward_ratio self) l = tb.later.self s l
-  table_word (suc k) s (reward_ratio other) l = tb.later.other s l
-  table_word (suc k) s event_fee l = tb.later.fee s l
+  table_word zero s f l = shared_word t.first_shares tb.first s l f
+  table_word (suc k) s (reward_ratio d) l = shared_word t.later_shares tb.later s l (reward_ratio d)
+  table_word (suc k) s event_fee l = shared_word t.later_shares tb.later s l event_fee
 
   seated_word : (a b : Bool) (u v o : ℕ) → (b ≡ true → u ≡ v) → (if a then (if b then u else o) else o) ≡ (if a && b then v else o)
   seated_word true true u v o h = h refl
@@ -236,7 +257,7 @@ module _ {Q W : ℕ} (E : ℕ) (w : Words) (cap : ℕ → ℕ) (seats epoch : �
 
 -- ---- the same of a pool
 
-module _ {Q W : ℕ} (pool : PoolDataMut) (x : PassedEpochs) (seats : ℕ) (t : SeatTable Q W) (first : ℕ) where
+module _ {Q : ℕ} (pool : PoolDataMut) (x : PassedEpochs) (seats : ℕ) (t : SeatTable Q) (first : ℕ) where
   pub late_begins : (d : ℕ) → d ≡ 0 → Becomes pool pool (late_words pool.e (words_in pool) x seats t first d)
   late_begins d e = becomes_same pool _ (λ f r. late_none pool.e (words_in pool) x seats t first d e f)
 

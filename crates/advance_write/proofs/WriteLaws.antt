@@ -40,7 +40,7 @@ keys_same w v m f g seats (suc j) s c e h =
 
 -- ---- the stages
 
-module _ {Q W P : ℕ} {w : Words} {m : List ℕ} {plan : AdvancePlan} {t : SeatTable Q W} {epoch : ℕ} (z : Worked P w m plan t epoch) where
+module _ {Q P : ℕ} {w : Words} {m : List ℕ} {plan : AdvancePlan} {t : SeatTable Q} {epoch : ℕ} (z : Worked P w m plan t epoch) where
   pub seats_in : plan.seats ≤ P
   seats_in = let h = seats_le P w in omega (arith, z.seats_is)
 
@@ -151,7 +151,7 @@ module _ {Q W P : ℕ} {w : Words} {m : List ℕ} {plan : AdvancePlan} {t : Seat
 -- ---- the pool from stage to stage
 
 -- the pool is lent to be read, and the epochs passed are found in it
-module _ {Q W : ℕ} (pool : PoolDataMut) {m : List ℕ} {plan : AdvancePlan} {t : SeatTable Q W} {epoch : ℕ} (z : Worked pool.p (words_in pool) m plan t epoch)
+module _ {Q : ℕ} (pool : PoolDataMut) {m : List ℕ} {plan : AdvancePlan} {t : SeatTable Q} {epoch : ℕ} (z : Worked pool.p (words_in pool) m plan t epoch)
     (found : PoolData) (fw : found.words.now ≡ pool.words.now) (fp : found.p ≡ pool.p) (fe : found.e ≡ pool.e)
     (x : PassedEpochs) (passed_is : x ≡ passed_epochs (words_of found) epoch plan.y)
   where

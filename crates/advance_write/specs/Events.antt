@@ -46,7 +46,7 @@ epoch_words E w x seats k shares (share t s f) =
     if t == (x.num_events + k) % E then (if nat_lt s seats then share_in shares s f else w (share t s f)) else w (share t s f)
 
 -- the words once each of the first k passed epochs has: the first with words of its own
-unfoldable pub events_words : {P W : ℕ} → (E : ℕ) → Words → PassedEpochs → (seats : ℕ) → SeatTable P W → (k : ℕ) → Words
+unfoldable pub events_words : {P : ℕ} → (E : ℕ) → Words → PassedEpochs → (seats : ℕ) → SeatTable P → (k : ℕ) → Words
 events_words E w x seats t zero f = w f
 events_words E w x seats t (suc k) f = epoch_words E (events_words E w x seats t k) x seats k (shares_in t k) f
 

@@ -51,12 +51,12 @@ fn write_event(event: &mut [u64], head: EventHead, shares: &[u64])
 }
 
 // Writes the event of the k-th passed epoch, from 0, into its slot: the first has ratios of its own.
-fn write_epoch<const P: usize, const W: usize>(
+fn write_epoch<const P: usize>(
     pool: &mut PoolDataMut<'_>,
     seats: usize,
     epochs: PassedEpochs,
     k: u64,
-    table: &SeatTable<P, W>,
+    table: &SeatTable<P>,
 )
     requires passing { Passing pool.old.p seats epochs }
     requires room { seats ≤ P }
@@ -77,11 +77,11 @@ fn write_epoch<const P: usize, const W: usize>(
 
 // Writes the events of the newest passed epochs, at most as many as the ring holds.
 #[tactic(auto, using(crate::proofs::RingLaws::late_begins))]
-pub fn write_events<const P: usize, const W: usize>(
+pub fn write_events<const P: usize>(
     pool: &mut PoolDataMut<'_>,
     seats: usize,
     epochs: PassedEpochs,
-    table: &SeatTable<P, W>,
+    table: &SeatTable<P>,
 )
     requires passing { Passing pool.old.p seats epochs }
     requires room { seats ≤ P }

@@ -22,12 +22,12 @@ pub mod sides;
 
 // The events, the sides, the keys of new publishers, then the words of the pool as a whole.
 #[tactic(auto, using(crate::proofs::WriteLaws::all_roll))]
-pub fn write_advance<const P: usize, const W: usize>(
+pub fn write_advance<const P: usize>(
     pool: &mut PoolDataMut<'_>,
     caps: PublisherCaps<'_>,
     epoch: Epoch,
     plan: &AdvancePlan,
-    table: &SeatTable<P, W>,
+    table: &SeatTable<P>,
 )
     requires { Worked pool.old.p (words_in pool.old) caps.message.now plan.now table.now epoch.0 }
     ensures { Becomes pool.old pool.new (advanced_words pool.old.p pool.old.e (words_in pool.old) caps.entry.message.now epoch.0 plan.now.y.0 plan.now.set_aside.0) }

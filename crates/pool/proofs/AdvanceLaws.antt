@@ -23,7 +23,7 @@ use Rattle.advance_plan.proofs.PlanLaws.{plan_advances}
 use Rattle.pool.specs.Answers.{image_after, AdvancesAs}
 
 -- the seats of a plan are the pool's
-pub seats_in : {Q W P : ℕ} {w : Words} {m : List ℕ} {plan : AdvancePlan} {t : SeatTable Q W} {epoch : ℕ} → Worked P w m plan t epoch → plan.seats ≤ P
+pub seats_in : {Q P : ℕ} {w : Words} {m : List ℕ} {plan : AdvancePlan} {t : SeatTable Q} {epoch : ℕ} → Worked P w m plan t epoch → plan.seats ≤ P
 seats_in z = let q = z.seats_is in rw q (seats_le _ _)
 
 -- ---- an advance
@@ -32,7 +32,7 @@ module _ (pool : PoolDataMut) (m : List ℕ) (g : Given) where
   abbrev leaves : Outcome Advanced → List ℕ
   leaves o = image_after pool.p pool.e pool.words.now m g o
 
-  pub advance_done : {Q W : ℕ} (plan : AdvancePlan) (t : SeatTable Q W) (z : Worked pool.p (words_in pool) m plan t g.current_epoch) (whole : Whole m)
+  pub advance_done : {Q : ℕ} (plan : AdvancePlan) (t : SeatTable Q) (z : Worked pool.p (words_in pool) m plan t g.current_epoch) (whole : Whole m)
       → accepted (planned_as plan) ≡ planned_of false pool.p (words_in pool) m g
       → (c : RowCounts) → c ≡ counts_of (marked_rows plan.marks.words) (rows_of m) (pool.p - plan.seats) → (new : PoolDataMut)
       → Becomes pool new (advanced_words pool.p pool.e (words_in pool) m g.current_epoch plan.y.0 plan.set_aside.0)

@@ -32,11 +32,11 @@ pub struct Advanced {
 
 // An advance, worked out in a table with room for P seats. All is worked out and tested before the first word is written.
 #[tactic(auto, unfolding(crate::specs::Answers::image_after, advance_plan::specs::Advance::advance_of, advance_plan::specs::Plan::planned_of, advance_plan::specs::Plan::sum_of))]
-fn advance_in<const P: usize, const W: usize>(
+fn advance_in<const P: usize>(
     pool: &mut PoolDataMut<'_>,
     caps: PublisherCaps<'_>,
     given: Given,
-    table: &mut SeatTable<P, W>,
+    table: &mut SeatTable<P>,
 ) -> Result<Advanced, Refusal>
     requires ready { Ready (words_in pool.old) given }
     requires room { pool.old.p ≤ P }
@@ -64,20 +64,20 @@ pub fn advance(
     ensures { AdvancesAs pool.old pool.new caps.entry.message.now given result }
 {
     if pool.p <= SMALL {
-        advance_in(pool, caps, given, &mut SeatTable::<SMALL, 192>::new())
+        advance_in(pool, caps, given, &mut SeatTable::<SMALL>::new())
     } else {
-        let mut table = SeatTable::<MAX_PUBLISHERS, 3072>::new();
+        let mut table = SeatTable::<MAX_PUBLISHERS>::new();
         advance_in(pool, caps, given, &mut table)
     }
 }
 
 // What an advance would set aside, every passed epoch taken at the rolled totals. Nothing is written.
 #[tactic(auto, unfolding(advance_plan::specs::Advance::forecast_of, advance_plan::specs::Plan::planned_of, advance_plan::specs::Plan::sum_of))]
-fn forecast_in<const P: usize, const W: usize>(
+fn forecast_in<const P: usize>(
     pool: PoolData<'_>,
     caps: PublisherCaps<'_>,
     given: Given,
-    table: &mut SeatTable<P, W>,
+    table: &mut SeatTable<P>,
 ) -> Result<Amount, Refusal>
     requires ready { Ready (words_of pool) given }
     requires room { pool.p ≤ P }
@@ -97,9 +97,9 @@ pub fn forecast(
     ensures { outcome_by amount_as result ≡ forecast_of pool.entry.p (words_of pool.entry) caps.entry.message.now given }
 {
     if pool.p <= SMALL {
-        forecast_in(pool, caps, given, &mut SeatTable::<SMALL, 192>::new())
+        forecast_in(pool, caps, given, &mut SeatTable::<SMALL>::new())
     } else {
-        let mut table = SeatTable::<MAX_PUBLISHERS, 3072>::new();
+        let mut table = SeatTable::<MAX_PUBLISHERS>::new();
         forecast_in(pool, caps, given, &mut table)
     }
 }
