@@ -1,5 +1,5 @@
 -- The answers of an advance and a forecast in document 01's numbers and values, and the image that an advance leaves. Assumes nothing.
-use Rattle.std.specs.Prelude.{◌≡◌, List, ℕ, Result}
+use Rattle.std.specs.Prelude.{◌≡◌, List, [], ◌∷◌, ℕ, Result}
 use Rattle.types.specs.Base.{Outcome, after, outcome_by}
 use Rattle.types.specs.declared.Amount.{Amount}
 use Rattle.types.specs.declared.refusals.Refusal.{Refusal}
@@ -13,6 +13,10 @@ use Rattle.pool.specs.declared.advance.Advanced as answer
 -- an advance's answer in numbers
 abbrev pub advanced_as : answer.Advanced → Advanced
 advanced_as a = record { y = a.y.0; set_aside = a.set_aside.0; matched = a.matched; seated = a.seated; dropped = a.dropped }
+
+-- the same as five words, in the order in which they are answered
+abbrev pub advanced_list : answer.Advanced → List ℕ
+advanced_list a = a.y.0 ∷ a.set_aside.0 ∷ a.matched ∷ a.seated ∷ a.dropped ∷ []
 
 -- a forecast's
 abbrev pub amount_as : Amount → ℕ

@@ -4,7 +4,7 @@ ghost use Rattle.types.specs.Base.{outcome_by};
 ghost use Rattle.image.specs.Pool.{words_of, words_in};
 ghost use Rattle.advance_plan.specs.Advance.{forecast_of};
 ghost use Rattle.advance_plan.specs.Plan.{Ready};
-ghost use Rattle.pool.specs.Answers.{amount_as, AdvancesAs};
+ghost use Rattle.pool.specs.Answers.{advanced_list, amount_as, AdvancesAs};
 
 use advance_plan::Given;
 use advance_plan::plan::plan;
@@ -28,6 +28,20 @@ pub struct Advanced {
     pub matched: u64,
     pub seated: u64,
     pub dropped: u64,
+}
+
+impl From<Advanced> for [u64; 5] {
+    ghost from_gives = { λ advanced words. words ≡ advanced_list advanced };
+
+    fn from(advanced: Advanced) -> [u64; 5] {
+        [
+            advanced.y.0,
+            advanced.set_aside.0,
+            advanced.matched,
+            advanced.seated,
+            advanced.dropped,
+        ]
+    }
 }
 
 // An advance, worked out in a table with room for P seats. All is worked out and tested before the first word is written.
@@ -54,7 +68,8 @@ fn advance_in<const P: usize>(
     })
 }
 
-// With room as the pool has need of.
+// With room as the pool has need of. `forecast` chooses so too: tables of two sizes are two types, and one function for both, given a closure that
+// takes its table, would have to take it at either type.
 pub fn advance(
     pool: &mut PoolDataMut<'_>,
     caps: PublisherCaps<'_>,

@@ -9,6 +9,7 @@ ghost use Rattle.pool.specs.Reward.{event_of, slot_reward, reward_sum, reward_of
 use event::event::{Event, PublisherEventData, Reward};
 use event_walk::EventAmounts;
 use event_walk::newest::{slot_before, walk_length};
+use image::MAX_EVENTS;
 use image::pool_data::PoolData;
 use types::refusals::Refusal;
 use types::{Amount, Ratio};
@@ -37,7 +38,8 @@ fn get_event(pool: PoolData<'_>, t: usize, s: usize) -> Event
     }
 }
 
-// What an amount earns in slot t. The event of a slot without an amount is not read.
+// What an amount earns in slot t. The event of a slot without an amount is not read. `is_publisher` is the Rust's own flag, here and below: the
+// account is the publisher's, and earns on its own side.
 #[tactic(auto, using(event::proofs::EventLaws::event_none))]
 fn slot_reward(
     pool: PoolData<'_>,
@@ -61,24 +63,24 @@ fn slot_reward(
 fn reward_sum(
     pool: PoolData<'_>,
     s: usize,
-    amounts: &[u64; 52],
-    own: bool,
+    amounts: &[u64; MAX_EVENTS],
+    is_publisher: bool,
 ) -> Result<Reward, Refusal>
     requires { s < pool.p }
-    ensures { outcome_by parts_as result ≡ reward_sum (walk_length pool.entry.e (words_of pool.entry)) (slot_reward pool.entry.e (words_of pool.entry) s own (λ k. get_or amounts.now k 0)) }
+    ensures { outcome_by parts_as result ≡ reward_sum (walk_length pool.entry.e (words_of pool.entry)) (slot_reward pool.entry.e (words_of pool.entry) s is_publisher (λ k. get_or amounts.now k 0)) }
 {
     let mut slot = (pool.num_events() % (pool.e as u64)) as usize;
-    let mut delegators = 0;
-    let mut publishers = 0;
+    let mut delegators: u64 = 0;
+    let mut publishers: u64 = 0;
     for k in 0..walk_length(pool) {
         slot = slot_before(slot, pool.e);
-        let reward = slot_reward(pool, slot, s, amounts[k], own)?;
+        let reward = slot_reward(pool, slot, s, amounts[k], is_publisher)?;
         let delegator = reward.delegator_reward.0;
         let publisher = reward.publisher_reward.0;
-        let room = u64::MAX - (delegators + publishers);
-        if room < delegator || room - delegator < publisher {
-            return Err(Refusal::DoesNotFit);
-        }
+        let sum = (delegators + publishers)
+            .checked_add(delegator)
+            .ok_or(Refusal::DoesNotFit)?;
+        sum.checked_add(publisher).ok_or(Refusal::DoesNotFit)?;
         delegators += delegator;
         publishers += publisher;
     }

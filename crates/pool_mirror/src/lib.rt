@@ -38,6 +38,19 @@ pub extern "C" fn pool_mirror_fresh(pool: &mut [u64], p: usize, e: usize, epoch:
     number(integrity_pool::fresh(pool, p, e, epoch))
 }
 
+// What an advance or a forecast is given besides the pool and the message.
+fn given(current_epoch: u64, y: u64, custody: u64, verified: u64, epoch_duration: u64) -> Given
+    ensures { result ≡ given_of current_epoch y custody verified epoch_duration }
+{
+    Given {
+        current_epoch,
+        y,
+        pool_reward_custody_balance: custody,
+        epoch_duration,
+        is_verified: verified,
+    }
+}
+
 // The epochs up to the current one are passed. The answer: y', what is set aside, rows matched, seated and dropped.
 #[unsafe(no_mangle)]
 pub extern "C" fn pool_mirror_advance(
@@ -56,23 +69,11 @@ pub extern "C" fn pool_mirror_advance(
     ensures pool_after { pool.new ≡ advance_image p e pool.old caps.now (given_of current_epoch y custody verified epoch_duration) }
     ensures answer_after { answer.new ≡ advance_answer answer.old (advance_call p e pool.old caps.now (given_of current_epoch y custody verified epoch_duration)) }
 {
-    let given = Given {
-        current_epoch,
-        y,
-        pool_reward_custody_balance: custody,
-        epoch_duration,
-        is_verified: verified,
-    };
+    let given = given(current_epoch, y, custody, verified, epoch_duration);
     match integrity_pool::advance(pool, p, e, caps, given) {
         Err(refusal) => refusal.into(),
         Ok(advanced) => {
-            *answer = [
-                advanced.y.0,
-                advanced.set_aside.0,
-                advanced.matched,
-                advanced.seated,
-                advanced.dropped,
-            ];
+            *answer = advanced.into();
             0
         }
     }
@@ -95,13 +96,7 @@ pub extern "C" fn pool_mirror_forecast(
     ensures value { result ≡ number_of (forecast_call p e pool.now caps.now (given_of current_epoch y custody verified epoch_duration)) }
     ensures answer_after { answer.new ≡ one_answer answer.old (forecast_call p e pool.now caps.now (given_of current_epoch y custody verified epoch_duration)) }
 {
-    let given = Given {
-        current_epoch,
-        y,
-        pool_reward_custody_balance: custody,
-        epoch_duration,
-        is_verified: verified,
-    };
+    let given = given(current_epoch, y, custody, verified, epoch_duration);
     match integrity_pool::forecast(pool, p, e, caps, given) {
         Err(refusal) => refusal.into(),
         Ok(aside) => {

@@ -1,3 +1,4 @@
+use Rattle.std.proofs.Common.{rules}
 use mathlib.Core.Path.{sym, ap, ◌∙◌}
 use Prim.Native.Nat.{ℕ, ◌<◌, ◌%◌}
 use native.Mathlib.Nat.{mod-lt, sub-zero}
@@ -31,5 +32,5 @@ loop-k-preserved c =
     let f = c.loop-k.invariant.2.fits in (
       before_lt _ _ _ c.loop-k.invariant.0 c.slot_before-slot.ensures,
       slot_kept _ _ _ _ i,
-      summed_more _ _ _ _ _ _ c.loop-k.invariant.2 r (omega (arith, c.if-room-delegator.false, c.if-room-delegator-2.false)),
+      summed_more _ _ _ _ _ _ c.loop-k.invariant.2 r (search rules),
     )
