@@ -53,7 +53,8 @@ impl DelegationRecord {
     }
 }
 
-// What a payment is given besides the pool and the positions; the accounts by the names of the Rust's AdvanceDelegationRecord.
+// What a payment is given besides the pool and the positions; the accounts by the names of the Rust's AdvanceDelegationRecord. They stand one by
+// one, and not in a `Delegation` as in `Slashing`: those are fields that callers fill in.
 #[derive(Clone, Copy, Debug, PartialEq, Eq)]
 pub struct Claim {
     pub delegation_record: DelegationRecord,
@@ -61,7 +62,7 @@ pub struct Claim {
     // The stake account whose positions are paid.
     pub stake_account_positions: Key,
     pub publisher_stake_account_positions: Option<Key>,
-    // Whether there is an account for the publisher's part: 0 where there is none.
+    // Whether there is an account for the publisher's part: 0 where there is none. A word of the call's input, of which any is taken, and no bool.
     pub publisher_stake_account_custody: u64,
     pub current_epoch: u64,
     // UNLOCKING_DURATION, in epochs.
@@ -148,7 +149,8 @@ fn payment_of(
 }
 
 // The amounts that an account's positions have gathered are paid what they have earned: what is paid leaves claimable. It is the same whether
-// the positions came as words or as records.
+// the positions came as words or as records. None of the ten calls: `lent` makes its payment with it. It checks the image itself: what the callers have
+// checked is a `PoolData`, by which nothing is written, and a parameter that says so of words to be written would ask more of them.
 #[tactic(auto, using(crate::proofs::PaymentLaws::gathered_covered, crate::proofs::PaymentLaws::paid_image_law), unfolding(crate::specs::Payment::gathered_call))]
 pub fn pay_gathered(
     pool: &mut [u64],

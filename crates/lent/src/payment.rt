@@ -12,15 +12,15 @@ use positions::Key;
 use positions::position::Position;
 use types::refusals::Refusal;
 
-// What a payment is given besides the pool, the positions and the record: a `Claim` without its record. That one is lent by `&mut`, and a struct
-// that held it could not be copied or compared.
+// What a payment is given besides the pool, the positions and the record: a `Claim` without its record, which is lent by `&mut`. Its fields stand
+// here again, and `Claim` holds no `LentClaim`: those are public fields that callers fill in by name.
 #[derive(Clone, Copy, Debug, PartialEq, Eq)]
 pub struct LentClaim {
     pub publisher: Key,
     // The stake account whose positions are paid.
     pub stake_account_positions: Key,
     pub publisher_stake_account_positions: Option<Key>,
-    // Whether there is an account for the publisher's part: 0 where there is none.
+    // Whether there is an account for the publisher's part: 0 where there is none. A word, of which any is taken, as in `Claim`.
     pub publisher_stake_account_custody: u64,
     pub current_epoch: u64,
     // UNLOCKING_DURATION, in epochs.
@@ -45,7 +45,8 @@ impl LentClaim {
 }
 
 // The positions of an account are paid what they have earned with one publisher, and the lent record moves to the current epoch. A refused
-// payment leaves it as it was.
+// payment leaves it as it was. Down to the payment it goes as integrity_pool's does: one function for both would be one more public there, and lists
+// of words and of records are checked each in its own way.
 #[tactic(auto, using(crate::proofs::RecordLaws::few, crate::proofs::PaymentLaws::gathered_records, integrity_pool::proofs::PaymentLaws::gathered_pays), unfolding(integrity_pool::specs::Payment::payment_call, integrity_pool::specs::Payment::gathered_call))]
 pub fn advance_delegation_record(
     pool: &mut [u64],

@@ -10,7 +10,8 @@ use pool::changes::Delegation;
 use types::refusals::Refusal;
 use types::{Amount, Epoch};
 
-// What a slash is given besides the pool and the record: a `Slashing` without its record, which is lent as in a `LentClaim`.
+// What a slash is given besides the pool and the record: a `Slashing` without its record, which is lent by `&mut`. Its fields stand here again, as
+// in a `LentClaim`: callers fill in those of `Slashing` by name.
 #[derive(Clone, Copy, Debug, PartialEq, Eq)]
 pub struct LentSlashing {
     pub delegation: Delegation,
