@@ -13,6 +13,7 @@ pub mod newest;
 pub mod span;
 
 // The Rust's event_amounts, one for each ring slot in the order in which walks come to them, and how many events have been read.
+// There is no heap: the amounts stand in an array with room for the largest ring.
 #[derive(Clone, Copy, Debug, PartialEq, Eq)]
 pub struct EventAmounts {
     pub amounts: [u64; MAX_EVENTS],

@@ -9,13 +9,14 @@ use image::MAX_EVENTS;
 use image::pool_data::PoolData;
 
 // The epochs of the newest events that are not older than the record's, newest first, and how many events each walk reads.
-#[derive(Debug, PartialEq, Eq, Drop)]
+#[derive(Clone, Debug, PartialEq, Eq, Drop)]
 pub struct Newest {
     pub epochs: ArrayVec<u64, MAX_EVENTS>,
     pub reads: usize,
 }
 
-// The slot in front of a slot, around the ring.
+// The slot in front of a slot, around the ring. Walks go by it, here and in `pool`: by an event's number, as `show` does, each slot would take a
+// division, where a payment makes two. One iterator for both would be a struct with its own `next`, since `-> impl Iterator` has no proof.
 #[tactic(auto, unfolding(crate::specs::Walked::slot_before))]
 pub fn slot_before(slot: usize, e: usize) -> usize
     requires { slot < e }
