@@ -21,8 +21,11 @@ fn read_full(file: &mut impl Read, buffer: &mut [u8]) -> io::Result<usize>
 }
 
 // The next words of a file, at the start of `rest`, and how many they are; none at its end.
-fn load_some(file: &mut impl Read, buffer: &mut [u8], rest: &mut [u64]) -> Result<usize, LoadError>
-    requires { 65536 ≤ length buffer.old }
+fn load_some(
+    file: &mut impl Read,
+    buffer: &mut words::Buffer,
+    rest: &mut [u64],
+) -> Result<usize, LoadError>
     ensures { IfOk result (λ count. count ≤ length rest.old) }
 {
     let most = rest.len().min(words::AT_ONCE) * 8;
@@ -38,16 +41,15 @@ fn load_some(file: &mut impl Read, buffer: &mut [u8], rest: &mut [u64]) -> Resul
 // The words of an open file, at the start of `room`, and how many they are: until the room is full or the file ends.
 pub fn load_all(
     file: &mut impl Read,
-    buffer: &mut [u8],
+    buffer: &mut words::Buffer,
     room: &mut [u64],
 ) -> Result<usize, LoadError>
-    requires { 65536 ≤ length buffer.old }
     ensures { IfOk result (λ count. count ≤ length room.old) }
 {
     let mut done = 0;
     // A `while`, since the next words go behind those that came, however many they were.
     while done < room.len() {
-        let count = load_some(&mut *file, &mut buffer[..], &mut room[done..])?;
+        let count = load_some(&mut *file, &mut *buffer, &mut room[done..])?;
         if count == 0 {
             break;
         }

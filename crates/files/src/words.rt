@@ -2,7 +2,9 @@
 ghost use Rattle.std.specs.Prelude.{◌≡◌, ◌*◌, length};
 ghost use Rattle.files.specs.Words.{words_of, bytes_of};
 
-// How many words go through a buffer of 65,536 bytes at once.
+// What words go through on their way, and how many of them at once.
+pub type Buffer = [u8; 65536];
+
 pub const AT_ONCE: usize = 8192;
 
 // The words that the bytes are.

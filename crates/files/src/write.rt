@@ -1,14 +1,14 @@
 // Words to an open file.
-ghost use Rattle.std.specs.Prelude.{◌≤◌, length};
-
 use crate::words;
 use std::fs::OpenFile;
 use std::io::{Result, Write};
 
 // Writes all words by way of a buffer, and sees that they are kept.
-pub fn save_all<F: Write + OpenFile>(file: &mut F, buffer: &mut [u8], pool: &[u64]) -> Result<()>
-    requires { 65536 ≤ length buffer.old }
-{
+pub fn save_all<F: Write + OpenFile>(
+    file: &mut F,
+    buffer: &mut words::Buffer,
+    pool: &[u64],
+) -> Result<()> {
     for part in pool.chunks(words::AT_ONCE) {
         let bytes = &mut buffer[..part.len() * 8];
         words::give_words(part, bytes);

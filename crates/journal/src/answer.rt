@@ -8,7 +8,7 @@ use crate::fault::{Fault, Wrong};
 use crate::names::Named;
 use crate::output::Pen;
 use positions::position::PositionState;
-use std::fmt::Write;
+use std::fmt::{self, Write};
 use types::refusals::Refusal;
 
 // `ok` and the values.
@@ -27,29 +27,24 @@ pub fn ok(pen: &mut Pen, values: &[u64])
 pub fn state(pen: &mut Pen, state: PositionState)
     ensures { array_vec_len pen.new.buffer ≤ ROOM }
 {
-    pen.text("ok ");
-    pen.text(state.name());
-    pen.byte(b'\n');
+    // A pen takes all text, here and below.
+    let _ = writeln!(pen, "ok {}", state.name());
 }
 
 // A refusal's number.
 pub fn refused(pen: &mut Pen, refusal: Refusal)
     ensures { array_vec_len pen.new.buffer ≤ ROOM }
 {
-    pen.text("refused ");
-    pen.number(u64::from(refusal));
-    pen.byte(b'\n');
+    let _ = writeln!(pen, "refused {}", u64::from(refusal));
 }
 
 // A call with its fields.
-fn call_line(pen: &mut Pen, call: Call) {
-    pen.text("  ");
-    pen.text(call.name());
+fn call_line(pen: &mut Pen, call: Call) -> fmt::Result {
+    write!(pen, "  {}", call.name())?;
     for (field, _) in call.fields() {
-        pen.byte(b' ');
-        pen.text(field);
+        write!(pen, " {field}")?;
     }
-    pen.byte(b'\n');
+    writeln!(pen)
 }
 
 // What `help` says of the answer.
@@ -81,41 +76,35 @@ pub fn help(pen: &mut Pen, call: Option<Call>)
     let Some(call) = call else {
         ok(pen, &[CALLS.len() as u64]);
         for call in CALLS {
-            call_line(pen, call);
+            let _ = call_line(pen, call);
         }
         return;
     };
     ok(pen, &[2]);
-    call_line(pen, call);
-    pen.text("  answer: ");
-    pen.text(answer_of(call));
-    pen.byte(b'\n');
+    let _ = call_line(pen, call);
+    let _ = writeln!(pen, "  answer: {}", answer_of(call));
 }
 
 // A call's name and its field's, if it has one.
-fn place(pen: &mut Pen, call: Call, field: Option<usize>) {
-    pen.text(call.name());
+fn place(pen: &mut Pen, call: Call, field: Option<usize>) -> fmt::Result {
+    write!(pen, "{}", call.name())?;
     if let Some(field) = field
         && let Some((name, _)) = call.fields().get(field)
     {
-        pen.byte(b' ');
-        pen.text(name);
+        write!(pen, " {name}")?;
     }
-    pen.text(": ");
+    write!(pen, ": ")
 }
 
 // A wrong line: its number, the call and the field where the line is at fault itself, and what is wrong with it.
 pub fn wrong(pen: &mut Pen, line: u64, wrong: &Wrong)
     ensures { array_vec_len pen.new.buffer ≤ ROOM }
 {
-    pen.text("line ");
-    pen.number(line);
-    pen.text(": ");
+    let _ = write!(pen, "line {line}: ");
     if let Some(call) = wrong.call
         && wrong.fault != Fault::NoInput
     {
-        place(pen, call, wrong.field);
+        let _ = place(pen, call, wrong.field);
     }
-    // A pen takes all text.
     let _ = writeln!(pen, "{}", wrong.fault);
 }

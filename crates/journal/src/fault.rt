@@ -73,3 +73,18 @@ pub struct Wrong {
     pub field: Option<usize>,
     pub fault: Fault,
 }
+
+// A fault where no call is read.
+impl From<Fault> for Wrong {
+    ghost use Rattle.std.specs.Prelude.{None};
+
+    ghost from_gives = { λ fault wrong. wrong ≡ record { call = None; field = None; fault = fault } };
+
+    fn from(fault: Fault) -> Wrong {
+        Wrong {
+            call: None,
+            field: None,
+            fault,
+        }
+    }
+}

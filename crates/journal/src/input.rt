@@ -142,16 +142,19 @@ impl Input {
     pub fn pass_over(&mut self, over: Over) -> Result<Option<u8>, Fault>
         ensures { IfOk result (λ byte. AtHand byte self.new.buffer self.new.at self.new.end) }
     {
+        // So many reads at most, which no input has: a loop has to end, and what is passed over makes no room less.
         for _ in 0..u64::MAX {
-            match self.at_hand() {
-                Some(byte) if !over.passes(byte) => return Ok(Some(byte)),
-                Some(_) => self.at += 1,
-                None => {
-                    self.item = self.at;
-                    if self.more()? == 0 {
-                        return Ok(None);
-                    }
-                }
+            let rest = &self.buffer[self.at..self.end];
+            self.at += rest
+                .iter()
+                .position(|b| !over.passes(*b))
+                .unwrap_or(rest.len());
+            if let Some(byte) = self.at_hand() {
+                return Ok(Some(byte));
+            }
+            self.item = self.at;
+            if self.more()? == 0 {
+                break;
             }
         }
         Ok(None)

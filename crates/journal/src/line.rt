@@ -69,11 +69,7 @@ fn read_fields(call: Call, input: &mut Input, fields: &mut Fields) -> Result<boo
 pub fn read_line(input: &mut Input, fields: &mut Fields) -> Result<Line, Wrong>
     ensures { IfOk result (λ line. whole_of line.call (array_vec_len fields.new.values) ≡ true) }
 {
-    let call = read_call(input).map_err(|fault| Wrong {
-        call: None,
-        field: None,
-        fault,
-    })?;
+    let call = read_call(input)?;
     let more = read_fields(call, input, fields).map_err(|fault| Wrong {
         call: Some(call),
         field: wrong_field(fault, fields.count()),
