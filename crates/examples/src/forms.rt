@@ -13,7 +13,7 @@ use std::io;
 use types::refusals::Refusal;
 
 // What a call left: the image, its answer, and the record to store.
-#[derive(PartialEq, Drop)]
+#[derive(Debug, PartialEq, Eq, Drop)]
 struct Outcome<T> {
     pool: Image,
     answer: Result<T, Refusal>,
@@ -28,6 +28,7 @@ fn agree<T: PartialEq>(core: &Outcome<T>, form: &Outcome<T>) -> bool
     core == form
 }
 
+// A function, not `From`: trait and types are of other crates, so that no impl can stand here. So with the slashing.
 fn lent_claim(claim: &Claim) -> LentClaim {
     LentClaim {
         publisher: claim.publisher,

@@ -2,9 +2,10 @@
 ghost use Rattle.std.specs.Prelude.{◌≡◌, ◌*◌, length};
 ghost use Rattle.files.specs.Words.{words_of, bytes_of};
 
-// What words go through on their way, and how many of them at once.
+// What words go through on their way from and to a file.
 pub type Buffer = [u8; 65536];
 
+// How many of them at once.
 pub const AT_ONCE: usize = 8192;
 
 // The words that the bytes are.

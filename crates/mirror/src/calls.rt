@@ -27,11 +27,11 @@ fn advanced_values(done: Advanced) -> [u64; 5]
     ]
 }
 
-// The record to keep.
+// The record to keep. With a contract, which a line's call has not.
 fn record_values(kept: DelegationRecord) -> [u64; 2]
     ensures { result ≡ record_told kept }
 {
-    [kept.last_epoch.0, kept.next_slash_event_index]
+    kept.into()
 }
 
 // The values of a payment's answer.
@@ -53,7 +53,7 @@ fn payment_values(paid: Payment) -> [u64; 6]
 fn nonzero(image: &[u64], pen: &mut Pen) {
     pen.text("ok");
     let mut place = next_nonzero(image, 0);
-    // A `while`, since next_nonzero says in its contract which words are passed over; a `for` over all words would have none.
+    // A `while`: a `for` that skips zeros is no plainer, and of what it skips nothing would be proved; next_nonzero's contract says it of each word.
     while place < image.len() {
         pen.byte(b' ');
         pen.number(place as u64);

@@ -21,15 +21,6 @@ use std::io::{IsTerminal, Stdin, Stdout, Write};
 use std::process::Process;
 use std::rt::Files;
 
-// Standard input can't be read.
-fn no_input(fault: Fault) -> Wrong {
-    Wrong {
-        call: None,
-        field: None,
-        fault,
-    }
-}
-
 // What a run carries from line to line: input and the line's number, its fields, the site, the answers, and whether people type the lines, which is
 // asked once, before a terminal can go away. Standard input and output have no equality.
 #[derive(Drop)]
@@ -88,13 +79,10 @@ impl Run {
 
     // A call, a comment, or a line's end; says whether the run goes on.
     fn step(&mut self, rt: &impl Files, process: Process) -> Result<bool, Wrong> {
-        match self.input.next_byte().map_err(no_input)? {
+        match self.input.next_byte()? {
             None => Ok(false),
             Some(b'\n') => Ok(self.new_line()),
-            Some(b'#') => {
-                let end = self.input.pass_over(Over::Line).map_err(no_input)?;
-                Ok(end.is_some())
-            }
+            Some(b'#') => Ok(self.input.pass_over(Over::Line)?.is_some()),
             Some(_) => self.call_line(rt, process),
         }
     }
@@ -109,6 +97,7 @@ impl Run {
 
     // Answers line after line until the input ends, `quit` or a wrong line ends it, or the answers can't be written.
     fn run(&mut self, rt: &impl Files, process: Process) {
+        // So many lines at most, which no input has: a loop has to end, and no bound of the input is known.
         for _ in 0..u64::MAX {
             let goes_on = match self.step(rt, process) {
                 Ok(goes_on) => goes_on,

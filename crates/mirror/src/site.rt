@@ -26,6 +26,7 @@ fn set_zeros(image: &mut ArrayVec<u64, WORDS_ROOM>, count: usize)
     ensures { image.new.items ≡ replicate count 0 }
 {
     image.clear();
+    // One by one: an ArrayVec has no `resize`, and `try_extend_from_slice` would take 1.4 MB of zeros beside it.
     for _ in 0..count {
         image.push(0);
     }
