@@ -55,7 +55,8 @@ pub fn unended(kind: Kind, stop: Stop) -> Result<(), Fault>
     Ok(())
 }
 
-// A word list, or a part of one: where it is whole, `-` is the empty one. How many words it has.
+// A word list, or a part of one: where it is whole, `-` is the empty one. How many words it has. `whole` is the definition's own: ListRead says of both
+// what is read, and of a part that it grows.
 fn list(s: &[u8], whole: bool, out: &mut [u64]) -> Result<usize, WordError>
     ensures { ListRead whole s.now out.old out.new result }
 {
@@ -65,14 +66,15 @@ fn list(s: &[u8], whole: bool, out: &mut [u64]) -> Result<usize, WordError>
     items::words(s, out)
 }
 
-// How many words of a list were read, and whether more of it follows.
+// How many words of a list were read, and whether more of it follows: a yes or no beside a count that both have, where an enum would name the count twice.
 #[derive(Clone, Copy, Debug, PartialEq, Eq)]
 struct Part {
     count: usize,
     more: bool,
 }
 
-// The part of a word list that begins at hand: all of it, or what the buffer holds, up to its last comma.
+// The part of a word list that begins at hand: all of it, or what the buffer holds, up to its last comma. `first` says whether the list begins with it,
+// and is handed on as `whole`.
 fn read_part(input: &mut Input, first: bool, out: &mut [u64]) -> Result<Part, Fault>
     requires { 0 < length out.old }
     ensures fits { IfOk result (λ part. part.count ≤ length out.old) }
@@ -175,7 +177,7 @@ impl Fields {
         self.values.len()
     }
 
-    // The number of field k, 0 where it is none.
+    // The number of field k, 0 where it is none. It and the three below have a `match` each: one generic would be given the same as a closure, and more.
     pub fn number(&self, k: usize) -> u64
         ensures { result ≡ number_at self.now.values.items k }
     {
@@ -236,7 +238,7 @@ impl Fields {
         &self.words[self.list..self.words_count]
     }
 
-    // One field more, of one value.
+    // One field more, of one value. That it has room is asked here and in the four below, for `push`: `try_push` would need a fault that no line can have.
     fn store_value(&mut self, kind: Kind, item: &[u8]) -> Result<(), Fault>
         requires { array_vec_len self.old.values < MOST_FIELDS }
         ensures told { result ≡ told_of (value_of kind item.now) }

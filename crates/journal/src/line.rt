@@ -9,7 +9,7 @@ use crate::fault::{Fault, Wrong};
 use crate::fields::Fields;
 use crate::input::{Input, Stop, ends};
 
-// A line's call, and whether another line may follow.
+// A line's call, and whether another line may follow: yes behind a line's end, no at the input's. An enum would say no more than `more`.
 #[derive(Clone, Copy, Debug, PartialEq, Eq)]
 pub struct Line {
     pub call: Call,

@@ -10,7 +10,9 @@ use std::io::{Stdout, Write};
 // The buffer's bytes.
 pub const ROOM: usize = 65536;
 
-// Standard output, which has no equality, what waits to be written to it, and whether every write so far took all its bytes.
+// Standard output, which has no equality, what waits to be written to it, and whether every write so far took all its bytes: `ok` is asked by a test alone,
+// and an enum would be turned into it. `within` stands again in the contracts of the functions that write text: of what the system decides it is all
+// that they can say, and none is to be without a contract.
 #[derive(Drop)]
 pub struct Pen {
     stdout: Stdout,
@@ -77,7 +79,7 @@ impl Pen {
         self.bytes(text.as_bytes());
     }
 
-    // A number in decimal.
+    // A number in decimal, by `io::decimal`: of its digits a law (`round`) says that they are read back as the number.
     pub fn number(&mut self, n: u64)
         ensures { array_vec_len self.new.buffer ≤ ROOM }
     {

@@ -10,6 +10,7 @@ use journal::calls::Call;
 use journal::fields::Fields;
 use journal::output::Pen;
 use pool::advance::Advanced;
+use std::fmt::Write;
 use std::process::Process;
 use std::rt::Files;
 use types::refusals::Refusal;
@@ -55,10 +56,8 @@ fn nonzero(image: &[u64], pen: &mut Pen) {
     let mut place = next_nonzero(image, 0);
     // A `while`: a `for` that skips zeros is no plainer, and of what it skips nothing would be proved; next_nonzero's contract says it of each word.
     while place < image.len() {
-        pen.byte(b' ');
-        pen.number(place as u64);
-        pen.byte(b':');
-        pen.number(image[place]);
+        // A pen takes all text.
+        let _ = write!(pen, " {place}:{}", image[place]);
         place = next_nonzero(image, place + 1);
     }
     pen.byte(b'\n');
