@@ -36,9 +36,9 @@ impl AsPosition for [u64; 9] {
 impl AsPosition for Position {
     ghost as_position = { λ position. position };
 
-    #[tactic(auto, unfolding(crate::specs::Records::record_in, positions::specs::Key::same_key))]
+    #[tactic(auto, unfolding(crate::specs::Records::record_in))]
     fn in_publisher(&self, publisher: Key) -> bool {
-        self.kind == 2 && self.publisher == publisher
+        Position::in_publisher(self, publisher)
     }
 
     fn position(&self) -> Position {

@@ -25,7 +25,7 @@ pub fn nines(words: &[u64]) -> &[[u64; 9]]
 pub fn holds(nine: &[u64; 9]) -> bool
     ensures { result ≡ position_holds nine.now 0 }
 {
-    nine[0] <= 2 && (nine[0] == 0 || nine[3] <= 1)
+    Position::from(*nine).holds()
 }
 
 // Refusal 4 is due where this is false.
@@ -41,7 +41,7 @@ pub fn checked(words: &[u64]) -> bool
 pub fn in_publisher(nine: &[u64; 9], publisher: Key) -> bool
     ensures { result ≡ in_publisher nine.now 0 publisher }
 {
-    nine[0] == 2 && Key(nine[5], nine[6], nine[7], nine[8]) == publisher
+    Position::from(*nine).in_publisher(publisher)
 }
 
 // Whether the list has a position in the publisher, so that any list will do.

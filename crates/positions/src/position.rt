@@ -1,7 +1,8 @@
 // A stake position and its state in an epoch.
-ghost use Rattle.std.specs.Prelude.{◌≡◌};
+ghost use Rattle.std.specs.Prelude.{◌≡◌, ◌&&◌, ◌||◌, leb, eqb};
 ghost use Rattle.types.specs.Base.{outcome_of};
 ghost use Rattle.positions.specs.Positions.{position_from};
+ghost use Rattle.positions.specs.Key.{same_key};
 ghost use Rattle.positions.specs.State.{state_of, state_number, StateNumbered};
 
 use crate::Key;
@@ -87,6 +88,21 @@ impl From<PositionState> for u64 {
 }
 
 impl Position {
+    // Whether it is as it should be. The flag of an empty one is not read.
+    pub fn holds(&self) -> bool
+        ensures { result ≡ (leb self.now.kind 2 && (eqb self.now.kind 0 || leb self.now.start_flag 1)) }
+    {
+        self.kind <= 2 && (self.kind == 0 || self.start_flag <= 1)
+    }
+
+    // Whether it is one in the publisher. Nothing but its kind and key is looked at.
+    #[tactic(auto, unfolding(crate::specs::Key::same_key))]
+    pub fn in_publisher(&self, publisher: Key) -> bool
+        ensures { result ≡ (eqb self.now.kind 2 && same_key self.now.publisher publisher) }
+    {
+        self.kind == 2 && self.publisher == publisher
+    }
+
     // The state in an epoch. Whether the end of unlocking fits is asked ahead of the states that
     // have a start, since the Rust works the end out first.
     #[tactic(auto, unfolding(crate::specs::State::state_by))]
