@@ -41,7 +41,8 @@ impl<'a> PoolData<'a> {
 impl<'a> PoolDataMut<'a> {
     ghost use Rattle.image.specs.Pool.{LentMut};
 
-    // A pool that has been checked, to be written.
+    // A pool that has been checked, to be written. There is no `check` of words to be written: where it refused, its contract could not say that
+    // they are as before, since a `&mut` that may have gone into the result has no last value when the function returns.
     pub fn new(words: &'a mut [u64], p: usize, e: usize) -> PoolDataMut<'a>
         requires { Sized words.old p e }
         ensures { LentMut p e words.entry result }

@@ -17,7 +17,8 @@ use positions::Key;
 use types::Amount;
 use types::refusals::Refusal;
 
-// Where a side of seat s stands: its total, and its change behind it.
+// Where a side of seat s stands: its total, and its change behind it. A side is told by a `bool`, here and below, since `is_self_side` answers
+// whether an account is the publisher's own; as an enum it would be made of that answer at each change, and taken apart here.
 fn side_place(p: usize, s: usize, is_self: bool) -> usize
     requires { (p ≤ 1024) × (s < p) }
     ensures { result ≡ addr p 1 (seat s (total_delegation (whose is_self))) }
@@ -26,7 +27,7 @@ fn side_place(p: usize, s: usize, is_self: bool) -> usize
     sides + s * 2
 }
 
-// A key's four words from place `at` on.
+// A key's four words from place `at` on. A copy of a slice would need them as an array first, which lists the four words as well.
 pub(crate) fn write_key(words: &mut [u64], at: usize, key: Key)
     requires { at + 4 ≤ length words.old }
     ensures { words.new ≡ keyed words.old at key }
@@ -43,12 +44,7 @@ impl PoolData<'_> {
         requires { at + 4 ≤ length self.words.now }
         ensures { result ≡ key_from self.entry.words.now at }
     {
-        Key(
-            self.words[at],
-            self.words[at + 1],
-            self.words[at + 2],
-            self.words[at + 3],
-        )
+        Key::from(*self.words[at..].first_chunk().unwrap())
     }
 
     // The publisher's key at seat s.
