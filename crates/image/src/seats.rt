@@ -39,12 +39,18 @@ pub(crate) fn write_key(words: &mut [u64], at: usize, key: Key)
 }
 
 impl PoolData<'_> {
-    // The key whose four words stand from place `at` on.
+    // The key whose four words stand from place `at` on. Tried by `Key::from` of the `first_chunk` there: an add at P 1,024 then took 8,291
+    // instructions for 6,236.
     fn key_at(self, at: usize) -> Key
         requires { at + 4 ≤ length self.words.now }
         ensures { result ≡ key_from self.entry.words.now at }
     {
-        Key::from(*self.words[at..].first_chunk().unwrap())
+        Key(
+            self.words[at],
+            self.words[at + 1],
+            self.words[at + 2],
+            self.words[at + 3],
+        )
     }
 
     // The publisher's key at seat s.
