@@ -1,8 +1,9 @@
 -- Laws of a key's words, by the bytes that its digits spell. Assumes nothing.
-use Rattle.std.proofs.Common.{◌≡◌, ℕ, ◌+◌, ◌*◌, ◌<◌, ◌≤◌, List, [], ◌∷◌, zero, suc, Option, None, Some, Bool}
-use Rattle.std.proofs.Common.{true, false, cond, sym, ◌∙◌, lit≤, refl, length, take, drop, get_or, arith}
+use Rattle.std.proofs.Common.{◌≡◌, ℕ, ◌+◌, ◌*◌, ◌/◌, ◌<◌, ◌≤◌, List, [], ◌∷◌, zero, suc, Option, None, Some, Bool}
+use Rattle.std.proofs.Common.{true, false, cond, sym, ap, ◌∙◌, lit≤, refl, length, take, drop, get_or, arith}
 use Rattle.std.proofs.lemmas.Grind.{common_steps, elements}
-use Rattle.std.proofs.lemmas.List.{get_or-take, get_or-drop, take_all}
+use Rattle.std.proofs.lemmas.List.{get_or-take, get_or-drop, take_all, drop-drop}
+use Rattle.std.specs.Simd.{first_chunks}
 use Rattle.std.specs.Int.{from_le_bytes, w64}
 use Rattle.text.specs.Hex.{all_hex, byte_at, stored, even_of, bytes_of, spelled}
 use Rattle.text.specs.Key.{low_first, word_at, key_of}
@@ -46,6 +47,15 @@ word_is s b out at e l h =
     let r : get_or b (at + j) 0 ≡ byte_at s ((at + j) * 2) = rw e (stored_at s 32 out (at + j) (omega arith) l) in
     let m : (at + j) * 2 ≡ k = omega arith in
     rw (get_or-take 8 (drop at b) j 0 n, get_or-drop at b j 0, ← m) r)
+
+-- the four words of 32 bytes, eight bytes each
+pub four_words : (b : List ℕ) (words : List (List ℕ)) → words ≡ first_chunks 8 (length b / 8) b → length b ≡ 32
+    → words ≡ (take 8 (drop 0 b) ∷ take 8 (drop 8 b) ∷ take 8 (drop 16 b) ∷ take 8 (drop 24 b) ∷ [])
+four_words b words e l =
+    let four : length b / 8 ≡ 4 = omega arith in
+    let third : drop 8 (drop 8 b) ≡ drop 16 b = drop-drop 8 8 b in
+    let fourth : drop 8 (drop 8 (drop 8 b)) ≡ drop 24 b = drop-drop 8 8 (drop 8 b) ∙ drop-drop 16 8 b in
+    e ∙ ap (λ (n : ℕ). first_chunks 8 n b) four ∙ (λ i. take 8 b ∷ take 8 (drop 8 b) ∷ take 8 (third i) ∷ take 8 (fourth i) ∷ [])
 
 -- what the bytes of 64 digits come to
 module _ (s : List ℕ) (long : length s ≡ 64) where

@@ -1,8 +1,7 @@
 // Fields of a journal, read from their bytes.
 #![tactic(auto)]
 
-ghost use Rattle.std.specs.Prelude.{◌≡◌, ◌+◌, ◌<◌, ◌≤◌, length, take, drop, IfSome};
-ghost use Rattle.std.specs.Int.{from_le_bytes, w64};
+ghost use Rattle.std.specs.Prelude.{◌≡◌, ◌<◌, length, IfSome};
 ghost use Rattle.text.specs.Decimal.{next_of, number_of};
 ghost use Rattle.text.specs.Hex.{nibble_of, pair_of, all_hex, bytes_of, spelled};
 ghost use Rattle.text.specs.Key.{key_of};
@@ -79,16 +78,6 @@ pub fn pair(high: u8, low: u8) -> Option<u8>
     Some((high * 16 + low) as u8)
 }
 
-// The word of the eight bytes from `at` on, the lowest first.
-fn word(bytes: &[u8], at: usize) -> u64
-    requires { at + 8 ≤ length bytes.now }
-    ensures { result ≡ from_le_bytes w64 (take 8 (drop at bytes.now)) }
-{
-    let mut word = [0; 8];
-    word.copy_from_slice(&bytes[at..at + 8]);
-    u64::from_le_bytes(word)
-}
-
 // A key of 64 hexadecimal digits, as four words, each with its lowest byte first.
 #[tactic(auto, using(crate::proofs::KeyLaws::key_none), unfolding(crate::specs::Key::key_of))]
 pub fn key(s: &[u8]) -> Option<[u64; 4]>
@@ -99,7 +88,13 @@ pub fn key(s: &[u8]) -> Option<[u64; 4]>
     }
     let mut key = [0; 32];
     bytes(s, &mut key)?;
-    Some([word(&key, 0), word(&key, 8), word(&key, 16), word(&key, 24)])
+    let words = key.as_chunks().0;
+    Some([
+        u64::from_le_bytes(words[0]),
+        u64::from_le_bytes(words[1]),
+        u64::from_le_bytes(words[2]),
+        u64::from_le_bytes(words[3]),
+    ])
 }
 
 // Hexadecimal digits as bytes, put at the start of `out`; what is beyond the room is passed over. By index: two digits are read for
