@@ -97,8 +97,8 @@ pub fn key(s: &[u8]) -> Option<[u64; 4]>
     ])
 }
 
-// Hexadecimal digits as bytes, put at the start of `out`; what is beyond the room is passed over. By index: two digits are read for
-// a byte, and over `iter_mut().zip(..)` an invariant has no name for the bytes so far.
+// Hexadecimal digits as bytes, put at the start of `out`; what is beyond the room is passed over. Written by index: the check has no
+// name for what a loop over `out.iter_mut().zip(..)` has written so far.
 #[tactic(auto, using(std::proofs::lemmas::List::take_min, crate::proofs::HexLaws::hex_pair), unfolding(crate::specs::Hex::bytes_of, crate::specs::Hex::even_of, crate::specs::Hex::spelled, crate::specs::Hex::stored, crate::specs::Hex::byte_at))]
 pub fn bytes(s: &[u8], out: &mut [u8]) -> Option<usize>
     ensures count { result ≡ bytes_of s.now (length out.old) }
@@ -108,9 +108,9 @@ pub fn bytes(s: &[u8], out: &mut [u8]) -> Option<usize>
     if digits.len() % 2 != 0 || !all_hex(digits) {
         return None;
     }
-    let count = digits.len() / 2;
-    for i in 0..count {
-        out[i] = pair(digits[i * 2], digits[i * 2 + 1]).unwrap();
+    let pairs = digits.as_chunks::<2>().0;
+    for (i, [high, low]) in pairs.iter().enumerate() {
+        out[i] = pair(*high, *low).unwrap();
     }
-    Some(count)
+    Some(pairs.len())
 }
