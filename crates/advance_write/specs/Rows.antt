@@ -1,21 +1,8 @@
 -- The words of an image in which unmatched rows have taken seats. Assumes nothing.
-use Rattle.std.specs.Prelude.{Bool, not, ◌&&◌, List, ℕ, eqb, if◌then◌else◌}
-use Rattle.publisher_caps.specs.Message.{key_word}
+use Rattle.std.specs.Prelude.{Bool, List, ℕ}
 use Rattle.image.specs.Layout.{publishers, total_delegation, delta_delegation, publisher_stake_accounts}
 use Rattle.image.specs.Layout.{num_slash_events, delegation_fees, head, seat, slot, share, Words}
 use Rattle.advance_plan.specs.Advance.{key_after}
-
--- row j has taken the seat `place`, unless it is matched
-unfoldable pub row_words : Words → List ℕ → (j place : ℕ) → (matched : Bool) → Words
-row_words w m j place matched (head h) = w (head h)
-row_words w m j place matched (seat q (publishers c)) = if not matched && eqb q place then key_word m j c else w (seat q (publishers c))
-row_words w m j place matched (seat q (total_delegation d)) = w (seat q (total_delegation d))
-row_words w m j place matched (seat q (delta_delegation d)) = w (seat q (delta_delegation d))
-row_words w m j place matched (seat q (publisher_stake_accounts c)) = w (seat q (publisher_stake_accounts c))
-row_words w m j place matched (seat q num_slash_events) = w (seat q num_slash_events)
-row_words w m j place matched (seat q delegation_fees) = w (seat q delegation_fees)
-row_words w m j place matched (slot t x) = w (slot t x)
-row_words w m j place matched (share t q x) = w (share t q x)
 
 -- the first j rows have been seen
 unfoldable pub keys_words : Words → List ℕ → (matched : ℕ → Bool) → (seats j : ℕ) → Words
