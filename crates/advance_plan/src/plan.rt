@@ -15,7 +15,8 @@ use types::bool_array::BoolArray;
 use types::refusals::Refusal;
 use types::{Amount, Ratio, SIGNED_LIMIT};
 
-// y', the amount set aside, how many seats there are, and the marks of the matched rows.
+// y', the amount set aside, how many seats there are, and the marks of the matched rows. That the seats are in a pool
+// is asked by each call that takes both: a plan holds no pool, since the pool is written while the plan is read.
 #[derive(Clone, Copy, Debug, PartialEq, Eq)]
 pub struct AdvancePlan {
     pub y: Ratio,
