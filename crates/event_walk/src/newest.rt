@@ -15,8 +15,8 @@ pub struct Newest {
     pub reads: usize,
 }
 
-// The slot in front of a slot, around the ring. Walks go by it, here and in `pool`: by an event's number, as `show` does, each slot would take a
-// division, where a payment makes two. One iterator for both would be a struct with its own `next`, since `-> impl Iterator` has no proof.
+// The slot in front of a slot, around the ring. Walks go by it, here and in `pool`. With a division for each slot instead, by events' numbers as in
+// `show`, tried and proved, a payment of 1 position over 52 events takes 1.33 of what it took, 1,181 ns for 888, where no call may take more than 1.05.
 #[tactic(auto, unfolding(crate::specs::Walked::slot_before))]
 pub fn slot_before(slot: usize, e: usize) -> usize
     requires { slot < e }
