@@ -16,6 +16,7 @@ pub fn ok(pen: &mut Pen, values: &[u64])
     ensures { array_vec_len pen.new.buffer ≤ ROOM }
 {
     pen.text("ok");
+    // By `number`, of whose digits a law (`round`) says what a client reads back, and not by `write!`, which proves too.
     for value in values {
         pen.byte(b' ');
         pen.number(*value);
