@@ -4,7 +4,8 @@ ghost use Rattle.std.specs.Prelude.{◌≤◌, length, IfOk};
 use crate::{LoadError, words};
 use std::io::{self, Read};
 
-// Reads until the buffer is full, the file ends or a read fails.
+// Reads until the buffer is full, the file ends or a read fails. The loop of load_all is alike; one for both is no plainer: it would be given the next
+// part as a closure, with a `requires` on what that counts.
 fn read_full(file: &mut impl Read, buffer: &mut [u8]) -> io::Result<usize>
     ensures { IfOk result (λ count. count ≤ length buffer.old) }
 {
