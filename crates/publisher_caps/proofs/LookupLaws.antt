@@ -101,7 +101,7 @@ module _ (m : List ℕ) (whole : Whole m) (low high n key : ℕ) (order : low �
     part_key : (i : ℕ) (d : List ℕ) → i < high - low → big_endian (get_or part i d) 0 32 ≡ key_at m (low + i)
     part_key i d h =
         let at : get_or part i d ≡ get_or rows (low + i) d =
-            ap (λ (l : List (List ℕ)). get_or l i d) is ∙ get_or-take (high - low) (drop low rows) i d h ∙ get_or-drop low rows i d in
+        ap (λ (l : List (List ℕ)). get_or l i d) is ∙ get_or-take (high - low) (drop low rows) i d h ∙ get_or-drop low rows i d in
         row_key_at m (get_or part i d) (low + i) (at ∙ row_at m rows n (low + i) d are (omega arith)) _ refl
 
     part_long : length part ≡ high - low
