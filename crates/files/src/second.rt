@@ -9,7 +9,8 @@ use std::fs::{self, OpenOptions};
 use std::process::Process;
 use std::rt::Files;
 
-// A new file, its name, and the number in that, which SecondMade alone reads: by it the name is told, and not only that there is one. It holds an open file, which is not copied or compared.
+// A new file, its name, and the number in that, which SecondMade alone reads: by it the name is told, and not only that there is one. It holds
+// an open file, which is not copied or compared.
 #[derive(Drop)]
 struct Second<F> {
     file: F,
