@@ -1,6 +1,6 @@
 -- Laws of keys as numbers: bytes to words to a number, the order, and the words of the image. Assumes nothing.
 use mathlib.Core.Path.{◌≡◌, refl, sym, ap, ◌∙◌}
-use mathlib.Core.Bool.{Bool, true, false}
+use mathlib.Core.Bool.{Bool, true, false, ◌&&◌}
 use mathlib.Core.List.{List, [], ◌∷◌}
 use Prim.Native.Nat.{ℕ, zero, suc, ◌+◌, ◌*◌, ◌/◌, ◌%◌, ◌^◌, ◌≤◌, ◌<◌}
 use native.Mathlib.Nat.{add-zero, add-suc, mul_assoc, pow-suc, add_assoc, mod-eq_of_lt}
@@ -12,10 +12,11 @@ use Rattle.std.specs.Int.{w16, w64, from_be_bytes, from_le_bytes, to_le_bytes, s
 use Rattle.std.specs.Ordering.{MatchOrdering, nat_cmp, ordering_then, partial_ordering_then, is_some_and, is_lt}
 use Rattle.std.specs.Cmp.{nat_cmp_is, Some-then}
 use Rattle.std.proofs.lemmas.Cmp.{ranked}
-use lib.Dec.{ltb}
-use borrow.Author.Tests.{lt-ltb, le-ltb, ltb-true, ltb-false}
+use lib.Dec.{ltb, eqb}
+use borrow.Author.Tests.{lt-ltb, le-ltb, eq-eqb, eqb-true, ltb-true, ltb-false}
 use Rattle.std.proofs.lemmas.List.{get_or-take, get_or-drop}
 use Rattle.types.specs.Base.{word}
+use Rattle.types.proofs.Below.{and_both}
 use Rattle.std.specs.declared.cmp.Ordering.{Ordering}
 use Rattle.std.specs.declared.cmp.Ordering.TheVariants.{Less, Equal, Greater}
 use Rattle.publisher_caps.specs.Key.{big_endian, little_endian, swapped, pair, number, number_by}
@@ -212,13 +213,36 @@ lt_number k l small_k small_l =
     )
     (ap is_lt (order_number k l small_k.0 small_k.1 small_k.2 small_l.0 small_l.1 small_l.2) ∙ below (number_by k) (number_by l))
 
--- what it says of the numbers
+-- what `k == l` answers
+abbrev pub eq_of : (k l : KeyNumber) → Bool
+eq_of k l = eqb k.0 l.0 && (eqb k.1 l.1 && (eqb k.2 l.2 && eqb k.3 l.3))
+
+module _ (k l : KeyNumber) where
+  pub eq_true : eq_of k l ≡ true → number_by k ≡ number_by l
+  eq_true e =
+      let d0 = and_both (eqb k.0 l.0) (eqb k.1 l.1 && (eqb k.2 l.2 && eqb k.3 l.3)) e in
+      let d1 = and_both (eqb k.1 l.1) (eqb k.2 l.2 && eqb k.3 l.3) d0.1 in
+      let d2 = and_both (eqb k.2 l.2) (eqb k.3 l.3) d1.1 in
+      number_same (eqb-true k.0 l.0 d0.0) (eqb-true k.1 l.1 d1.0) (eqb-true k.2 l.2 d2.0) (eqb-true k.3 l.3 d2.1)
+
+  pub eq_false : eq_of k l ≡ false → number_by k ≡ number_by l → Small k → Small l → ⊥
+  eq_false e q small_k small_l =
+      let t3 = pair_same _ _ _ _ small_k.2 small_l.2 q in
+      let t2 = pair_same _ _ _ _ small_k.1 small_l.1 t3.0 in
+      let t1 = pair_same _ _ _ _ small_k.0 small_l.0 t2.0 in
+      let same : eq_of k l ≡ true = simp (eq-eqb k.0 l.0 t1.0, eq-eqb k.1 l.1 t1.1, eq-eqb k.2 l.2 t2.1, eq-eqb k.3 l.3 t3.1) in
+      absurd cc
+
+-- what their answers say of the numbers
 module _ (k l : KeyNumber) (small_k : Small k) (small_l : Small l) (t : Bool) where
   pub less_says : t ≡ lt_of k l → t ≡ true → number_by k < number_by l
   less_says e h = ltb-true _ _ (sym (lt_number k l small_k small_l) ∙ sym e ∙ h)
 
   pub not_less_says : t ≡ lt_of k l → t ≡ false → number_by l ≤ number_by k
   not_less_says e h = ltb-false _ _ (sym (lt_number k l small_k small_l) ∙ sym e ∙ h)
+
+  pub other_says : t ≡ eq_of k l → t ≡ false → number_by k ≡ number_by l → ⊥
+  other_says e h q = eq_false k l (sym e ∙ h) q small_k small_l
 
 -- ---- the library's reading
 
@@ -275,3 +299,9 @@ module _ (m : List ℕ) (at : ℕ) where
 
 pub swapped_word : (x : ℕ) → swap_bytes w64 x ≡ swapped x
 swapped_word x = big_sum (to_le_bytes w64 x) ∙ swap_sum x
+
+-- four bytes, the first the highest
+pub four_bytes : (m : List ℕ) (at : ℕ)
+    → get_or m at 0 * 2 ^ 24 + get_or m (at + 1) 0 * 2 ^ 16 + get_or m (at + 2) 0 * 2 ^ 8 + get_or m (at + 3) 0 ≡ big_endian m at 4
+unfolding big_endian
+four_bytes m at = omega (arith, ap (λ (n : ℕ). get_or m n 0) (add-zero at))

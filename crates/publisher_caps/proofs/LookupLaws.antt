@@ -1,32 +1,22 @@
 -- Laws of looking a key up: one for each way that the search goes, and what the row says. Assumes nothing.
-use mathlib.Core.Logic.{◌⊎◌, inl, inr, ⊎_elim}
 use mathlib.Core.Path.{◌≡◌, refl, sym, ap, subst, ◌∙◌}
 use mathlib.Core.Bool.{Bool, true, false}
-use mathlib.Core.List.{List, []}
-use Prim.Native.Nat.{ℕ, zero, suc, ◌+◌, ◌-◌, ◌*◌, ◌<◌, ◌≤◌}
+use mathlib.Core.List.{List}
+use Prim.Native.Nat.{ℕ, zero, suc, ◌+◌, ◌-◌, ◌*◌, ◌/◌, ◌<◌, ◌≤◌}
 use native.Mathlib.Nat.{add-zero, zero-add}
 use native.Mathlib.Decide.{ℕ_discrete}
 use native.Mathlib.Omega.{arith}
 use lib.Dec.{ltb, eqb}
-use lib.ListN.{length, get_or, take, drop}
+use lib.ListN.{get_or}
 use borrow.Author.Tests.{eq-eqb, ne_eqb, ltb-true, ltb-false, eqb-true, eqb-false}
-use Rattle.std.specs.Prelude.{Option, Some, None, Err, IfSome, if◌then◌else◌}
-use Rattle.std.specs.Simd.{first_chunks}
-use Rattle.std.specs.Ordering.{nat_cmp, ordering_index}
-use Rattle.std.specs.List.{HoldsAt}
-use Rattle.std.specs.List.Sorted.{IsBinarySearchResult, IsNonDecreasingBy}
-use Rattle.std.specs.declared.cmp.Ordering.{Ordering}
-use Rattle.std.specs.declared.cmp.Ordering.TheVariants.{Equal}
-use Rattle.std.proofs.lemmas.Cmp.{ranked}
-use Rattle.std.proofs.lemmas.List.{get_or-take, get_or-drop, length-take, length-drop}
-use Rattle.std.proofs.lemmas.Bool.Decides.{nat_tests}
+use Rattle.std.specs.Prelude.{Option, Some, None, IfSome, if◌then◌else◌}
+use Rattle.std.specs.Option.{unwrap_or}
 use Rattle.types.specs.Base.{word}
-use Rattle.publisher_caps.specs.Key.{big_endian, number_by}
+use Rattle.publisher_caps.specs.Key.{number_by}
 use Rattle.publisher_caps.specs.declared.key.KeyNumber.{KeyNumber}
 use Rattle.publisher_caps.specs.Message.{rows_of, key_at, cap_at, Whole}
 use Rattle.publisher_caps.specs.Lookup.{lookup, AboveFront, BelowRest, Encloses, cap_in, cap_of}
 use Rattle.publisher_caps.proofs.KeyLaws.{bytes_below, less_0}
-use Rattle.publisher_caps.proofs.RowLaws.{chunks_long, row_at, row_key_at}
 
 suc_add : (a b : ℕ) → suc a + b ≡ suc (a + b)
 suc_add a b = omega arith
@@ -83,64 +73,34 @@ module _ (m : List ℕ) (whole : Whole m) where
       go (yes e) = omega (arith, ap (key_at m) e)
       go (no ne) = omega (arith, whole.ordered i j (omega arith) (omega arith))
 
-at_or_below : (a b : ℕ) → (a < b) ⊎ (b ≤ a)
-at_or_below a b = go (ltb a b) refl
-  where
-    go : (t : Bool) → ltb a b ≡ t → (a < b) ⊎ (b ≤ a)
-    go true e = inl (ltb-true a b e)
-    go false e = inr (ltb-false a b e)
+-- its answer, a number: no message has a row 1,024
+abbrev pub or_none : Option ℕ → ℕ
+or_none r = unwrap_or r 1_024
 
--- how a row's key stands to a key
-abbrev pub beside : List ℕ → (key : ℕ) → Ordering
-beside row key = nat_cmp (big_endian row 0 32) key
+module _ (m : List ℕ) (whole : Whole m) (from rows key : ℕ) (within : from + rows ≤ rows_of m) where
+  pub search_none : rows ≡ 0 → None ≡ lookup m key from rows
+  search_none e = sym (lookup_without m key from rows (λ i a b. absurd (omega arith)))
 
--- the library's search, among the rows from `low` up to `high`
-module _ (m : List ℕ) (whole : Whole m) (low high n key : ℕ) (order : low ≤ high) (within : high ≤ n) (counted : n ≡ rows_of m)
-    (rows part : List (List ℕ)) (are : rows ≡ first_chunks 40 n (drop 11 m)) (is : part ≡ take (high - low) (drop low rows))
-  where
-    part_key : (i : ℕ) (d : List ℕ) → i < high - low → big_endian (get_or part i d) 0 32 ≡ key_at m (low + i)
-    part_key i d h =
-        let at : get_or part i d ≡ get_or rows (low + i) d =
-        ap (λ (l : List (List ℕ)). get_or l i d) is ∙ get_or-take (high - low) (drop low rows) i d h ∙ get_or-drop low rows i d in
-        row_key_at m (get_or part i d) (low + i) (at ∙ row_at m rows n (low + i) d are (omega arith)) _ refl
+  pub search_low : (rows ≡ 0 → ⊥) → key < key_at m (from + rows / 2) → lookup m key from (rows / 2) ≡ lookup m key from rows
+  search_low pos l =
+      cut m key (rows / 2) from (rows - rows / 2) (λ i a b q. omega (arith, keys_rise m whole (from + rows / 2) i a (omega arith)))
+      ∙ ap (λ (n : ℕ). lookup m key from n) (omega arith)
 
-    part_long : length part ≡ high - low
-    part_long =
-        let all : length rows ≡ n = ap length are ∙ chunks_long n (drop 11 m) in
-        rw (is, length-take (high - low) (drop low rows), length-drop low rows, all) (omega arith)
+  pub search_here : (n : ℕ) → n ≡ from + rows / 2 → (rows ≡ 0 → ⊥) → key ≡ key_at m (from + rows / 2) → Some n ≡ lookup m key from rows
+  search_here n q pos e =
+      ap Some q
+      ∙ first m key (from + rows / 2) (rows - rows / 2) (omega arith) e
+      ∙ skip m key (rows / 2) from (rows - rows / 2) (λ i a b z. omega (arith, whole.ordered i (from + rows / 2) b (omega arith)))
+      ∙ ap (λ (n : ℕ). lookup m key from n) (omega arith)
 
-    pub search_found : (i : ℕ) → i < length part → HoldsAt (λ row. beside row key ≡ Equal) part i → Some (low + i) ≡ lookup m key low (high - low)
-    search_found i l h =
-        let short = part_long in
-        let same : big_endian (get_or part i []) 0 32 ≡ key = ranked _ key _ (sym (h [])) in
-        let meets : key ≡ key_at m (low + i) = sym same ∙ part_key i [] (omega arith) in
-        first m key (low + i) (high - low - i) (omega arith) meets
-        ∙ skip m key i low (high - low - i) (λ j a b z. omega (arith, whole.ordered j (low + i) b (omega arith)))
-        ∙ ap (λ (k : ℕ). lookup m key low k) (omega arith)
-
-    rise : IsNonDecreasingBy (λ row. ordering_index (beside row key)) part
-    rise =
-        λ i j d le lt.
-        let short = part_long in
-        let a = part_key i d (omega arith) in
-        let b = part_key j d (omega arith) in
-        let up = keys_rise m whole (low + i) (low + j) (omega arith) (omega arith) in
-        rw (a, b) (higher _ _ up)
-      where
-        higher : (a b : ℕ) → a ≤ b → ordering_index (nat_cmp a key) ≤ ordering_index (nat_cmp b key)
-        higher a b le = grind (arith, nat_tests)
-
-    pub search_missed : (i : ℕ) → IsBinarySearchResult (λ row. beside row key) part (Err i) → None ≡ lookup m key low (high - low)
-    search_missed i h =
-        let parted = h rise in
-        let short = part_long in
-        sym (lookup_without m key low (high - low) (λ j a b q.
-        let at : low + (j - low) ≡ j = omega arith in
-        let same : big_endian (get_or part (j - low) []) 0 32 ≡ key = part_key (j - low) [] (omega arith) ∙ ap (key_at m) at ∙ q in
-        ⊎_elim
-        (λ (l : j - low < i). omega (arith, ranked _ key _ (sym (parted.0 (j - low) [] (omega arith) l)), same))
-        (λ (l : i ≤ j - low). omega (arith, ranked _ key _ (sym (parted.1 (j - low) [] l (omega arith))), same))
-        (at_or_below (j - low) i)))
+  pub search_high : (rows ≡ 0 → ⊥) → key_at m (from + rows / 2) < key → lookup m key (from + rows / 2 + 1) (rows - rows / 2 - 1) ≡ lookup m key from rows
+  search_high pos l =
+      ap (λ (n : ℕ). lookup m key n (rows - rows / 2 - 1)) (along from (rows / 2))
+      ∙ skip m key (rows / 2 + 1) from (rows - rows / 2 - 1) (λ i a b q. omega (arith, keys_rise m whole i (from + rows / 2) (omega arith) (omega arith)))
+      ∙ ap (λ (n : ℕ). lookup m key from n) (omega arith)
+    where
+      along : (a b : ℕ) → a + b + 1 ≡ a + (b + 1)
+      along a b = omega arith
 
 -- ---- rows that a key can stand in alone
 
@@ -210,6 +170,22 @@ module _ (m : List ℕ) (key : ℕ) where
 
   pub lookup_key : (rows i : ℕ) → Some i ≡ lookup m key 0 rows → key_at m i ≡ key
   lookup_key rows i e = (lookup_says rows (Some i) e).2
+
+-- what the search's number says
+module _ (m : List ℕ) (key rows : ℕ) (few : rows ≤ 1_024) where
+  inside : (r : Option ℕ) → r ≡ lookup m key 0 rows → or_none r ≡ 1_024 → r ≡ None
+  inside None e h = refl
+  inside (Some i) e h = absurd (omega (arith, lookup_in m key rows (Some i) e))
+
+  told : (r : Option ℕ) → (or_none r ≡ 1_024 → ⊥) → Some (or_none r) ≡ r
+  told None ne = absurd (ne refl)
+  told (Some i) ne = refl
+
+  pub none_told : (n : ℕ) → n ≡ or_none (lookup m key 0 rows) → n ≡ 1_024 → None ≡ lookup m key 0 rows
+  none_told n e h = sym (inside (lookup m key 0 rows) refl (sym e ∙ h))
+
+  pub row_told : (n : ℕ) → n ≡ or_none (lookup m key 0 rows) → (n ≡ 1_024 → ⊥) → Some n ≡ lookup m key 0 rows
+  row_told n e ne = ap Some e ∙ told (lookup m key 0 rows) (λ h. ne (e ∙ h))
 
 -- ---- rows of a whole message
 

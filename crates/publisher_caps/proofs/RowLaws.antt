@@ -35,10 +35,6 @@ rows_taken m rows s es h =
     let many : length s / 40 ≡ rows = rw long (omega arith) in
     rw (many, es, cut) (taken rows (drop 11 m))
 
-pub chunks_long : (n : ℕ) (s : List ℕ) → length (first_chunks 40 n s) ≡ n
-chunks_long zero s = refl
-chunks_long (suc n) s = ap (λ (k : ℕ). suc k) (chunks_long n (drop 40 s))
-
 chunk_at : (n i : ℕ) (s d : List ℕ) → i < n → get_or (first_chunks 40 n s) i d ≡ take 40 (drop (i * 40) s)
 chunk_at zero i s d h = absurd (omega arith)
 chunk_at (suc n) zero s d h = refl
