@@ -93,7 +93,8 @@ module _ (m : List ℕ) (whole : Whole m) (from rows key : ℕ) (within : from +
       ∙ skip m key (rows / 2) from (rows - rows / 2) (λ i a b z. omega (arith, whole.ordered i (from + rows / 2) b (omega arith)))
       ∙ ap (λ (n : ℕ). lookup m key from n) (omega arith)
 
-  pub search_high : (rows ≡ 0 → ⊥) → key_at m (from + rows / 2) < key → lookup m key (from + rows / 2 + 1) (rows - rows / 2 - 1) ≡ lookup m key from rows
+  pub search_high : (rows ≡ 0 → ⊥) → key_at m (from + rows / 2) < key
+      → lookup m key (from + rows / 2 + 1) (rows - rows / 2 - 1) ≡ lookup m key from rows
   search_high pos l =
       ap (λ (n : ℕ). lookup m key n (rows - rows / 2 - 1)) (along from (rows / 2))
       ∙ skip m key (rows / 2 + 1) from (rows - rows / 2 - 1) (λ i a b q. omega (arith, keys_rise m whole i (from + rows / 2) (omega arith) (omega arith)))
