@@ -5,7 +5,6 @@ use Rattle.positions.specs.declared.position.PositionState.{PositionState}
 use Rattle.positions.specs.State.{state_call}
 use Rattle.image.specs.Changes.{Change}
 use Rattle.advance_plan.specs.Advance.{Advanced}
-use Rattle.pool.specs.declared.advance.Advanced as told
 use Rattle.integrity_pool.specs.declared.payment.DelegationRecord.{DelegationRecord}
 use Rattle.integrity_pool.specs.declared.payment.Payment as paid
 use Rattle.integrity_pool.specs.Calls.{fresh_call, fresh_image, advance_call, advance_image, forecast_call}
@@ -68,10 +67,6 @@ module _ (site : Site) (fields : Fields) where
   -- state EPOCH POSITION, of which the pool is no part
   abbrev pub state_of : Outcome PositionState
   state_of = state_call (list_of fields) (number_at fields.values.items 0) site.unlocking_duration
-
--- y', the amount set aside, rows matched, rows seated, rows dropped
-abbrev pub advanced_told : told.Advanced → List ℕ
-advanced_told a = a.y.0 ∷ a.set_aside.0 ∷ a.matched ∷ a.seated ∷ a.dropped ∷ []
 
 -- the record's epoch, its next index
 abbrev pub record_told : DelegationRecord → List ℕ

@@ -1,6 +1,7 @@
 // A line's call is made, and answered.
 ghost use Rattle.std.specs.Prelude.{◌≡◌};
-ghost use Rattle.mirror.specs.Calls.{advanced_told, record_told, payment_told};
+ghost use Rattle.pool.specs.Answers.{advanced_list};
+ghost use Rattle.mirror.specs.Calls.{record_told, payment_told};
 
 use crate::failure::{Failure, check_accounts};
 use crate::site::{Site, next_nonzero};
@@ -15,20 +16,14 @@ use std::process::Process;
 use std::rt::Files;
 use types::refusals::Refusal;
 
-// The values of an advance's answer.
+// The values of an advance's answer. With a contract, here and below, which a line's call has not.
 fn advanced_values(done: Advanced) -> [u64; 5]
-    ensures { result ≡ advanced_told done }
+    ensures { result ≡ advanced_list done }
 {
-    [
-        done.y.0,
-        done.set_aside.0,
-        done.matched,
-        done.seated,
-        done.dropped,
-    ]
+    done.into()
 }
 
-// The record to keep. With a contract, which a line's call has not.
+// The record to keep.
 fn record_values(kept: DelegationRecord) -> [u64; 2]
     ensures { result ≡ record_told kept }
 {
