@@ -27,7 +27,7 @@
 #include <stddef.h>
 #include <stdint.h>
 
-#define POOL_MIRROR_VERSION "1.2.3"
+#define POOL_MIRROR_VERSION "1.2.4"
 
 #ifdef __cplusplus
 extern "C" {

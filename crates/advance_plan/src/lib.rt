@@ -15,6 +15,6 @@ pub struct Given {
     pub pool_reward_custody_balance: u64,
     // EPOCH_DURATION, in seconds.
     pub epoch_duration: u64,
-    // The caps message's flag.
+    // The caps message's flag: a word of the call's input, of which any is taken, and 1 alone says that it was verified.
     pub is_verified: u64,
 }

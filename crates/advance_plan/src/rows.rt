@@ -21,7 +21,7 @@ pub struct RowCounts {
 }
 
 // All keys are divided into equal parts, one fewer than there are entries. An entry is the first row of its part, or of a later one. Nothing is
-// proved of the entries: where one is wrong, a row is only found later. An index is never copied, so it has no `Clone`.
+// proved of the entries: where one is wrong, a row is only found later. It has no `Clone` and no `Copy`, so that no call takes a copy of its 4 KB.
 #[derive(Debug, PartialEq, Eq, Drop)]
 struct Index<const ENTRIES: usize> {
     first_rows: [u16; ENTRIES],

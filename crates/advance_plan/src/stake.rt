@@ -8,6 +8,7 @@ ghost use Rattle.advance_plan.specs.Stake.{seat_eligible, seat_epochs, shares_of
 use crate::table::SeatTable;
 use event::eligible::EligibleDelegationData;
 use image::pool_data::PoolData;
+use image::seats::SeatSide;
 use types::refusals::Refusal;
 use types::wide::Wide;
 use types::{Amount, Ratio};
@@ -62,8 +63,8 @@ fn eligible_at_seat(pool: PoolData<'_>, s: usize, cap: Amount) -> Result<SeatEpo
     requires { s < pool.p }
     ensures { outcome_of result ≡ seat_epochs (words_of pool.entry) cap.0 s }
 {
-    let self_side = pool.side(s, true);
-    let other_side = pool.side(s, false);
+    let self_side = pool.side(s, SeatSide::Own);
+    let other_side = pool.side(s, SeatSide::Other);
     let self_next = self_side.roll()?;
     let other_next = other_side.roll()?;
     Ok(SeatEpochs {

@@ -4,8 +4,8 @@ ghost use Rattle.std.specs.Prelude.{◌≡◌, ◌*◌, length, replicate};
 // Room for P seats: a cap for each, and its three words in an event, self ratio, other ratio and fee: those of the first passed epoch, and of every
 // later one. A short pool has a short table, since clearing a long one would take more than all else.
 // Three arrays, not one of seats: the shares stand as they do in an event, into which they are copied as one slice.
-// A table is never copied, so it has no `Clone`. That a pool's seats have room is asked by each call that takes both: no
-// struct's invariant says it, since P is a constant of the table's type and the pool's p a number that is read.
+// It has no `Clone` and no `Copy`, so that no call takes a copy of its 56 KB. That a pool's seats have room is asked by each call that takes
+// both, and no struct says it: one that held pool and table could not stand while the pool is written, and each call would make it anew.
 #[derive(Debug, PartialEq, Eq, Drop)]
 pub struct SeatTable<const P: usize> {
     pub caps: [u64; P],

@@ -5,6 +5,7 @@ use Rattle.positions.specs.declared.Key.{Key}
 use Rattle.image.proofs.ListLaws.{lt_or_le}
 use Rattle.std.specs.List.{filter, zip, range_with_len, fold}
 use Rattle.std.specs.Fn.{CalledAt}
+use Rattle.std.specs.Iterator.{Yields}
 use Rattle.std.specs.Iterator.Adapters.{zip_first, zip_second, zip_steps, filter_source, filter_callee, filter_steps}
 use Rattle.std.specs.declared.iter.Zip.{Zip}
 use Rattle.std.specs.declared.iter.Filter.{Filter}
@@ -13,10 +14,10 @@ use Rattle.std.specs.Range.{range_steps}
 use denote.Ref.{Bor}
 use denote.Param.Members.{Mut}
 use Rattle.std.proofs.lemmas.Iterator.{YieldsList, YieldsList-from_zip, YieldsList-from_range}
-use Rattle.std.proofs.lemmas.Iterator.Consumers.{YieldsList-at, YieldsList-from_filter}
+use Rattle.std.proofs.lemmas.Iterator.Consumers.{YieldsList-at, YieldsList-from_filter, YieldsList-turn, YieldsList-end}
 use Rattle.std.proofs.lemmas.List.FromFn.{filter_of_map_range_with_len_more}
 use Rattle.std.proofs.lemmas.List.Sums.{fold-append}
-use Rattle.std.specs.Prelude.{Option, if◌then◌else◌}
+use Rattle.std.specs.Prelude.{Option, None, Some, if◌then◌else◌}
 use Rattle.types.specs.Base.{to_nat, count_below}
 use Rattle.types.proofs.Below.{count_le}
 use Rattle.publisher_caps.specs.declared.PublisherCap.{PublisherCap}
@@ -26,7 +27,7 @@ use Rattle.image.specs.Layout.{num_slash_events, delegation_fees, Field, head, s
 use Rattle.image.specs.Seats.{word_of, with_publisher}
 use Rattle.image.specs.declared.pool_data.PoolDataMut.{PoolDataMut}
 use Rattle.image.specs.Pool.{words_in, Becomes}
-use Rattle.image.proofs.PoolLaws.{becomes_reads, becomes_same, becomes_next}
+use Rattle.image.proofs.PoolLaws.{becomes_reads, becomes_next}
 use Rattle.advance_plan.specs.Advance.{key_after}
 use Rattle.advance_write.specs.Rows.{keys_words}
 
@@ -265,6 +266,20 @@ rows_road g seats P rows matched e e1 e2 es ec h =
     (YieldsList-at e2 (YieldsList-from_filter g (λ j. not (matched j)) (YieldsList-from_range 0 rows rows es (omega arith)) ec h))
     )
 
+-- of the item r that a `for` over the pairs gives next, when it has given xs: none, and each row has its seat, or a pair of a seat and a row
+pub record RowTurn (seats P rows : ℕ) (matched : ℕ → Bool) (xs : List (ℕ × ℕ)) (r : Option (ℕ × ℕ)) : Type 0 where
+  pub ended : r ≡ None → (E : ℕ) (w : Words) (m : List ℕ) (g : Field) → InRange P E g → paired_words w m xs g ≡ keys_words w m matched seats rows g
+  pub within : {x : ℕ × ℕ} → r ≡ Some x → (x.0 < P) × (x.1 < rows)
+
+pub row_turn : {S : Type 0} {steps : S → Option (ℕ × ℕ) → S → Type 0} {s t u : S} {seats P rows : ℕ} {matched : ℕ → Bool} {xs : List (ℕ × ℕ)}
+    {r : Option (ℕ × ℕ)} → YieldsList steps (λ p. (p.0, p.1)) s (zip (range_with_len seats (P - seats)) (unmatched matched rows)) → seats ≤ P
+    → Yields steps s xs t → steps t r u → RowTurn seats P rows matched xs r
+row_turn {P = P} {xs = xs} e l y p = record {
+  ended = λ q E w m g i. ap (λ (a : List (ℕ × ℕ)). paired_words w m a g) (sym (map-id xs) ∙ (YieldsList-end e xs _ y _ _ q p).0)
+      ∙ pairs_done P E w m _ _ _ g i;
+  within = λ q. let k = YieldsList-turn e xs _ y _ _ _ q p in pair_in _ _ _ _ _ _ k.0 k.1 l;
+}
+
 -- ---- the same of a pool
 
 publisher_same : (v u : Words) (s : ℕ) (key : Key) (g : Field) → v g ≡ u g → with_publisher v s key g ≡ with_publisher u s key g
@@ -280,9 +295,6 @@ publisher_same v u s key (slot t x) e = e
 publisher_same v u s key (share t q x) e = e
 
 module _ (pool : PoolDataMut) (m : List ℕ) where
-  pub pairs_begin : Becomes pool pool (paired_words (words_in pool) m [])
-  pairs_begin = becomes_same pool _ (λ f r. refl)
-
   pub pairs_go : (at next : PoolDataMut) (l : List (ℕ × ℕ)) (place j : ℕ) (key : Key) → Becomes pool at (paired_words (words_in pool) m l)
       → key ≡ (row_of m j).pubkey
       → Becomes at next (with_publisher (words_in at) place key) → Becomes pool next (paired_words (words_in pool) m (l ++ (place, j) ∷ []))

@@ -9,6 +9,7 @@ use publisher_caps::PublisherCaps;
 use types::bool_array::BoolArray;
 
 // Unmatched rows take seats in row order, from the first seat behind `seats`, while any is left.
+#[tactic(auto, using(image::proofs::PoolLaws::becomes_itself))]
 pub fn seat_rows(
     pool: &mut PoolDataMut<'_>,
     seats: usize,

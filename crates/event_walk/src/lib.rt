@@ -31,8 +31,8 @@ impl EventAmounts {
         }
     }
 
-    // One position's walk: its span is added in each event met, where every sum fits. By index, as below: over `iter_mut().zip(epochs)`
-    // an invariant has no name for the sums so far.
+    // One position's walk: its span is added in each event met, where every sum fits. By index, as below. Tried: over `iter_mut().zip(epochs)`
+    // the proof does not close, since an invariant has no name for the sums so far.
     #[tactic(auto, using(crate::proofs::AmountLaws::sums))]
     pub fn walk(mut self, newest: &Newest, span: Span) -> Option<EventAmounts>
         requires { self.reads + newest.now.reads < word }

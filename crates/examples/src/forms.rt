@@ -28,7 +28,7 @@ fn agree<T: PartialEq>(core: &Outcome<T>, form: &Outcome<T>) -> bool
     core == form
 }
 
-// A function, not `From`: trait and types are of other crates, so that no impl can stand here. So with the slashing.
+// A function, not `From`: trait and types are of other crates, so that no impl can stand here, and lent has no use for one. So with the slashing.
 fn lent_claim(claim: &Claim) -> LentClaim {
     LentClaim {
         publisher: claim.publisher,

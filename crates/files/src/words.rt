@@ -5,7 +5,7 @@ ghost use Rattle.files.specs.Words.{words_of, bytes_of};
 // What words go through on their way from and to a file.
 pub type Buffer = [u8; 65536];
 
-// How many of them at once.
+// How many of them at once: as many as the buffer has room for, eight bytes each.
 pub const AT_ONCE: usize = 8192;
 
 // The words that the bytes are.
@@ -14,7 +14,7 @@ pub fn take_words(s: &[u8], out: &mut [u64])
     ensures { out.new ≡ words_of s.now (length out.old) }
 {
     let (chunks, _) = s.as_chunks::<8>();
-    // By index: the proof over `out.iter_mut().zip(chunks)` does not close, since it has no name for what such a loop leaves in `out`.
+    // By index. Tried: the proof over `out.iter_mut().zip(chunks)` does not close, since it has no name for what such a loop leaves in `out`.
     for (i, bytes) in chunks.iter().enumerate() {
         out[i] = u64::from_le_bytes(*bytes);
     }

@@ -5,6 +5,8 @@ use Rattle.positions.specs.declared.Key.{Key}
 use Rattle.positions.specs.Key.{same_key}
 use Rattle.delegation.specs.declared.DelegationState.{DelegationState}
 use Rattle.delegation.specs.Side.{Side}
+use Rattle.image.specs.declared.seats.SeatSide.{SeatSide}
+use Rattle.image.specs.declared.seats.SeatSide.TheVariants.{Own, Other}
 use Rattle.image.specs.Layout.{Whose, self, other, publishers, total_delegation, delta_delegation, publisher_stake_accounts}
 use Rattle.image.specs.Layout.{num_slash_events, delegation_fees, head, seat, slot, share, Words, read, image}
 use Rattle.image.specs.Seats.{stake_account_at, word_of, with_side}
@@ -18,6 +20,11 @@ self_side w s account = same_key (stake_account_at w s) account
 abbrev pub whose : (self_side : Bool) → Whose
 whose true = self
 whose false = other
+
+-- the side that the code names
+abbrev pub side_named : SeatSide → Whose
+side_named Own = self
+side_named Other = other
 
 -- ---- a seat with a word of it changed, all else as it was
 

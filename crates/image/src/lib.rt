@@ -33,7 +33,8 @@ pub fn num_events_at(p: usize, e: usize) -> usize
     event_at(p, e)
 }
 
-// The words of a pool of p seats and e events. Where there is no such pool it is 0, as many as are laid out then: of an `Option` 0 would be made.
+// The words of a pool of p seats and e events, asked before there is a pool. Where there is no such pool it is 0, as many as are laid out then: of
+// an `Option` 0 would be made.
 #[tactic(auto, using(crate::proofs::PlaceLaws::slot_small), unfolding(crate::specs::Seats::size_of))]
 pub fn size(p: usize, e: usize) -> usize
     ensures is { result ≡ size_of p e }

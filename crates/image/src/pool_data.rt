@@ -14,7 +14,7 @@ pub struct PoolData<'a> {
     pub ghost sized: { Sized words.now p e },
 }
 
-// A pool that is written. It has no `==`, since a `&mut` has none, and no copy.
+// A pool that is written. It has no `==`, since in Rattle a `&mut` has none, and no copy.
 #[derive(Debug, Drop)]
 pub struct PoolDataMut<'a> {
     pub words: &'a mut [u64],

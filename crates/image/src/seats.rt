@@ -7,7 +7,7 @@ ghost use Rattle.types.specs.Base.{outcome_of};
 ghost use Rattle.positions.specs.Positions.{key_from};
 ghost use Rattle.image.specs.Layout.{total_delegation, delegation_fees, seat, addr};
 ghost use Rattle.image.specs.Seats.{publisher_at, stake_account_at, side_at, seats_of, first_seat, publisher_index_of, keyed, with_publisher, with_side};
-ghost use Rattle.image.specs.Changes.{whose};
+ghost use Rattle.image.specs.Changes.{self_side, whose, side_named};
 ghost use Rattle.image.specs.Pool.{words_of, words_in, Becomes};
 
 use crate::num_events_at;
@@ -17,13 +17,22 @@ use positions::Key;
 use types::Amount;
 use types::refusals::Refusal;
 
-// Where a side of seat s stands: its total, and its change behind it. A side is told by a `bool`, here and below, since `is_self_side` answers
-// whether an account is the publisher's own; as an enum it would be made of that answer at each change, and taken apart here.
-fn side_place(p: usize, s: usize, is_self: bool) -> usize
+// The sides of a seat, document 01's self side and other side: stake of the publisher's own account, and everybody else's.
+#[derive(Clone, Copy, Debug, PartialEq, Eq)]
+pub enum SeatSide {
+    Own,
+    Other,
+}
+
+// Where a side of seat s stands: its total, and its change behind it. It takes P alone, since a pool that is read and one that is written ask it.
+fn side_place(p: usize, s: usize, side: SeatSide) -> usize
     requires { (p ≤ 1024) × (s < p) }
-    ensures { result ≡ addr p 1 (seat s (total_delegation (whose is_self))) }
+    ensures { result ≡ addr p 1 (seat s (total_delegation (side_named side))) }
 {
-    let sides = if is_self { 2 + 6 * p } else { 2 + 4 * p };
+    let sides = match side {
+        SeatSide::Own => 2 + 6 * p,
+        SeatSide::Other => 2 + 4 * p,
+    };
     sides + s * 2
 }
 
@@ -69,12 +78,24 @@ impl PoolData<'_> {
         self.key_at(2 + 8 * self.p + s * 4)
     }
 
-    // One side of seat s.
-    pub fn side(self, s: usize, is_self: bool) -> DelegationState
+    // The side of seat s that an account's stake stands on.
+    pub fn account_side(self, s: usize, account: Key) -> SeatSide
         requires { s < self.p }
-        ensures { result ≡ side_at (words_of self.entry) s (whose is_self) }
+        ensures { side_named result ≡ whose (self_side (words_of self.entry) s account) }
     {
-        let at = side_place(self.p, s, is_self);
+        if self.is_self_side(s, account) {
+            SeatSide::Own
+        } else {
+            SeatSide::Other
+        }
+    }
+
+    // One side of seat s.
+    pub fn side(self, s: usize, side: SeatSide) -> DelegationState
+        requires { s < self.p }
+        ensures { result ≡ side_at (words_of self.entry) s (side_named side) }
+    {
+        let at = side_place(self.p, s, side);
         DelegationState {
             total_delegation: Amount(self.words[at]),
             delta_delegation: self.words[at + 1],
@@ -129,12 +150,12 @@ impl PoolDataMut<'_> {
 
     // One side of seat s becomes this one.
     #[tactic(auto, using(crate::proofs::WriteLaws::side_written))]
-    pub fn set_side(&mut self, s: usize, is_self: bool, side: DelegationState)
+    pub fn set_side(&mut self, s: usize, side: SeatSide, becomes: DelegationState)
         requires { s < self.old.p }
-        ensures { Becomes self.old self.new (with_side (words_in self.old) s (whose is_self) side) }
+        ensures { Becomes self.old self.new (with_side (words_in self.old) s (side_named side) becomes) }
     {
-        let at = side_place(self.p, s, is_self);
-        self.words[at] = side.total_delegation.0;
-        self.words[at + 1] = side.delta_delegation;
+        let at = side_place(self.p, s, side);
+        self.words[at] = becomes.total_delegation.0;
+        self.words[at + 1] = becomes.delta_delegation;
     }
 }

@@ -1,40 +1,39 @@
 -- A number that is written in decimal is read back as the same number. Assumes nothing.
-use Rattle.std.proofs.Common.{◌≡◌, ℕ, zero, suc, ◌+◌, ◌-◌, ◌*◌, ◌/◌, ◌%◌, ◌^◌, ◌<◌, ◌≤◌, List, [], ◌∷◌, ◌++◌, ap, arith, le-ltb, lt-ltb, Result, Ok, Err}
+use Rattle.std.proofs.Common.{◌≡◌, ℕ, zero, suc, ◌+◌, ◌-◌, ◌*◌, ◌/◌, ◌%◌, ◌^◌, ◌<◌, ◌≤◌, false, List, [], ◌∷◌, length, ap, ◌∙◌, arith, eq-eqb, ne_eqb, le-ltb, lt-ltb, decimal, Ok}
 use native.Mathlib.Nat.{pow-succ'}
-use Rattle.io.specs.Digits.{last_digits}
-use Rattle.text.specs.declared.NumberError.{NumberError}
-use Rattle.text.specs.Decimal.{next_of, onward}
+use native.Mathlib.Decide.{ℕ_discrete}
+use Rattle.std.specs.Fmt.{digits_onto, digits}
+use Rattle.std.proofs.lemmas.Fmt.{decimal_nonempty}
+use Rattle.text.specs.Decimal.{next_of, onward, number_of}
 
 -- one digit more
 next : (m b : ℕ) → 48 ≤ b → b ≤ 57 → m * 10 + (b - 48) < 2 ^ 64 → next_of m b ≡ Ok (m * 10 + (b - 48))
 unfolding next_of
 next m b h k l = rw (le-ltb _ _ h, le-ltb _ _ k, lt-ltb _ _ l)
 
--- what is read behind it
-abbrev on : List ℕ → Result ℕ NumberError → Result ℕ NumberError
-on ys (Ok i) = onward i ys
-on ys (Err d) = Err d
-
--- at the end
-one_more :
-    (xs : List ℕ) (n m b : ℕ) → onward n xs ≡ Ok m → 48 ≤ b → b ≤ 57 → m * 10 + (b - 48) < 2 ^ 64 → onward n (xs ++ (b ∷ [])) ≡ Ok (m * 10 + (b - 48))
+-- the last digit, behind the others
+last_digit : (n : ℕ) (acc : List ℕ) → n < 2 ^ 64 → onward (n / 10) ((48 + n % 10) ∷ acc) ≡ onward n acc
 unfolding onward
-one_more [] n m b e h k l = let q : n ≡ m = cc in rw (q, onward, next m b h k l)
-one_more (x ∷ xs) n m b e h k l = go (next_of n x) e (λ i f. one_more xs i m b f h k l)
-  where
-    go :
-        (r : Result ℕ NumberError) → on xs r ≡ Ok m → ((i : ℕ) → onward i xs ≡ Ok m → onward i (xs ++ (b ∷ [])) ≡ Ok (m * 10 + (b - 48))) →
-        on (xs ++ (b ∷ [])) r ≡ Ok (m * 10 + (b - 48))
-    go (Ok i) f g = g i f
-    go (Err d) f g = absurd (cc)
-
-pub round : (k n : ℕ) → n < 10 ^ k → n < 2 ^ 64 → onward 0 (last_digits 10 k n) ≡ Ok n
-unfolding onward
-round zero n h l = let q : 0 ≡ n = omega arith in ap Ok q
-round (suc k) n h l =
-    let p : 10 ^ suc k ≡ 10 * 10 ^ k = pow-succ' 10 k in
-    let i : n / 10 < 10 ^ k = omega arith in
-    let e = round k (n / 10) i (omega arith) in
+last_digit n acc h =
     let d : n % 10 < 10 = omega arith in
     let w : n / 10 * 10 + (48 + n % 10 - 48) ≡ n = omega arith in
-    rw (lt-ltb (n % 10) 10 d, one_more (last_digits 10 k (n / 10)) 0 (n / 10) (48 + n % 10) e (omega arith) (omega arith) (omega arith)) (ap Ok w)
+    rw (onward, next (n / 10) (48 + n % 10) (omega arith) (omega arith) (omega arith), w)
+
+-- the digits of n, at most k of them
+all_digits : (k n : ℕ) (acc : List ℕ) → n < 10 ^ k → n < 2 ^ 64 → onward 0 (digits_onto k 10 false n acc) ≡ onward n acc
+all_digits zero n acc l h = ap (λ (i : ℕ). onward i acc) (omega arith)
+all_digits (suc k) n acc l h =
+    let p : 10 ^ suc k ≡ 10 * 10 ^ k = pow-succ' 10 k in
+    let d : n % 10 < 10 = omega arith in
+    go (ℕ_discrete (n / 10) 0) (all_digits k (n / 10) ((48 + n % 10) ∷ acc) (omega arith) (omega arith)) (last_digit n acc h)
+  where
+    go : Dec (n / 10 ≡ 0) → onward 0 (digits_onto k 10 false (n / 10) ((48 + n % 10) ∷ acc)) ≡ onward (n / 10) ((48 + n % 10) ∷ acc)
+        → onward (n / 10) ((48 + n % 10) ∷ acc) ≡ onward n acc → onward 0 (digits_onto (suc k) 10 false n acc) ≡ onward n acc
+    go (yes z) e q = rw (eq-eqb (n / 10) 0 z, lt-ltb (n % 10) 10 (omega arith)) (rw z at q)
+    go (no z) e q = rw (ne_eqb (n / 10) 0 z, lt-ltb (n % 10) 10 (omega arith)) (e ∙ q)
+
+pub read_back : (n : ℕ) → n < 2 ^ 64 → number_of (decimal n) ≡ Ok n
+unfolding number_of digits onward
+read_back n h =
+    let d : 0 < length (decimal n) = decimal_nonempty n h in
+    rw (ne_eqb (length (decimal n)) 0 (λ z. omega arith)) (all_digits 64 n [] (omega arith) h)

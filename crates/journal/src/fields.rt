@@ -122,7 +122,7 @@ pub fn room(kind: Kind, left: usize) -> usize
 
 // What a line's fields came to: their values in order, the bytes of a message or a path, and the words of the lists, the last of which begins at `list`.
 // Bytes and words stand in arrays with their counts, since the readers of `text` write into a slice that has room, which an ArrayVec does not lend.
-// It derives nothing else: a run has one, of 1.4 MB, which nothing copies or compares.
+// It derives nothing else: a run has one, of 1.4 MB, which no call is to take a copy of, and nothing compares.
 #[derive(Drop)]
 pub struct Fields {
     pub values: ArrayVec<Value, MOST_FIELDS>,

@@ -12,7 +12,7 @@ pub const ROOM: usize = 65536;
 
 // Standard output, which has no equality, what waits to be written to it, and whether every write so far took all its bytes: `ok` is asked by a test alone,
 // and an enum would be turned into it. `within` stands again in the contracts of the functions that write text: of what the system decides it is all
-// that they can say, and none is to be without a contract.
+// that they can say, and no public function is without a contract.
 #[derive(Drop)]
 pub struct Pen {
     stdout: Stdout,
@@ -79,13 +79,11 @@ impl Pen {
         self.bytes(text.as_bytes());
     }
 
-    // A number in decimal, by `io::decimal`: of its digits a law (`round`) says that they are read back as the number.
+    // A number in decimal. `itoa` puts what `decimal` of std's definitions tells, which is read back as the number: a law (`read_back`).
     pub fn number(&mut self, n: u64)
         ensures { array_vec_len self.new.buffer ≤ ROOM }
     {
-        let mut digits = [0; 20];
-        let count = io::decimal(n, &mut digits);
-        self.bytes(&digits[..count]);
+        self.text(itoa::Buffer::new().format(n));
     }
 }
 

@@ -45,8 +45,8 @@ impl LentClaim {
 }
 
 // The positions of an account are paid what they have earned with one publisher, and the lent record moves to the current epoch. A refused
-// payment leaves it as it was. Down to the payment it goes as integrity_pool's does: one function for both would be one more public there, and lists
-// of words and of records are checked each in its own way.
+// payment leaves it as it was. What it does as integrity_pool's call does is `gather` and `pay_gathered`; the checks of a list of records and of one of
+// words differ.
 #[tactic(auto, using(crate::proofs::RecordLaws::few, crate::proofs::PaymentLaws::gathered_records, integrity_pool::proofs::PaymentLaws::gathered_pays), unfolding(integrity_pool::specs::Payment::payment_call, integrity_pool::specs::Payment::gathered_call))]
 pub fn advance_delegation_record(
     pool: &mut [u64],

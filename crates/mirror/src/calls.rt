@@ -49,7 +49,7 @@ fn payment_values(paid: Payment) -> [u64; 6]
 fn nonzero(image: &[u64], pen: &mut Pen) {
     pen.text("ok");
     let mut place = next_nonzero(image, 0);
-    // A `while`: a `for` that skips zeros is no plainer, and of what it skips nothing would be proved; next_nonzero's contract says it of each word.
+    // A `while` over `next_nonzero`, whose contract says which words are passed over: of a `for` over what a filter leaves nothing would be proved.
     while place < image.len() {
         // A pen takes all text.
         let _ = write!(pen, " {place}:{}", image[place]);

@@ -10,7 +10,7 @@ use journal::fields::{Fields, WORDS_ROOM};
 use std::process::Process;
 use std::rt::Files;
 
-// The image, one word more than the largest at most; P and E; and the settings. A run has one, of 1.4 MB, which nothing copies or compares.
+// The image, one word more than the largest at most; P and E; and the settings. A run has one, of 1.4 MB, which no call is to take a copy of, and nothing compares.
 #[derive(Drop)]
 pub struct Site {
     pub image: ArrayVec<u64, WORDS_ROOM>,
@@ -110,7 +110,7 @@ pub fn next_nonzero(image: &[u64], from: usize) -> usize
     requires { from ≤ length image.now }
     ensures { NextNonzero image.now from result }
 {
-    // By index: the proof over `iter().position(..)` of the rest does not close.
+    // By index. Tried: the proof over `iter().position(..)` of the rest does not close.
     for place in from..image.len() {
         if image[place] != 0 {
             return place;

@@ -7,7 +7,8 @@ use native.Mathlib.Omega.{arith}
 use lib.Dec.{leb}
 use lib.ListN.{get_or}
 use borrow.Author.Tests.{le-leb, lt-leb}
-use Rattle.std.specs.Prelude.{if◌then◌else◌, Option, Some, None}
+use Rattle.std.proofs.lemmas.List.{get_or-take, length-take}
+use Rattle.std.specs.Prelude.{if◌then◌else◌, Option, Some, None, take, length}
 use Rattle.types.specs.Base.{word, Outcome, refused, accepted, map_outcome, is_accepted, sum_below, all_below}
 use Rattle.types.specs.Refusals.{does_not_fit}
 use Rattle.types.proofs.Below.{sum_none, sum_more, sum_same, sum_grows, all_none, all_more, all_not, all_same}
@@ -16,17 +17,13 @@ use Rattle.event.specs.Event.{Parts, event_reward}
 use Rattle.event.proofs.EventLaws.{event_refused}
 use Rattle.image.specs.Layout.{Words}
 use Rattle.event_walk.specs.Walk.{walk_length, walk_slot, slot_amount, reads_of}
+use Rattle.event_walk.specs.Walked.{slot_before}
 use Rattle.event_walk.specs.declared.EventAmounts.{EventAmounts}
+use Rattle.event_walk.proofs.WalkLaws.{slot_from, slot_back, slot_kept}
 use Rattle.event_amounts.specs.Gathered.{GatheredOf}
 use Rattle.pool.specs.Reward.{event_of, slot_reward, delegator_in, publisher_in, reward_sum, earned_with, calculate_reward, reward_of}
 
--- ---- an event
-
-pub slot_earns : (E : ℕ) (w : Words) (s : ℕ) (self_side : Bool) (amount : ℕ → ℕ) (k t : ℕ) (o : Outcome Parts)
-    → t ≡ walk_slot E w k → o ≡ event_reward (event_of w t s) (amount k) self_side → slot_reward E w s self_side amount k ≡ o
-unfolding slot_reward
-slot_earns E w s self_side amount k t o q r = ap (λ (x : ℕ). event_reward (event_of w x s) (amount k) self_side) (sym q) ∙ sym r
-
+-- a slot's reward is refused with 13 alone
 pub slot_refused : (E : ℕ) (w : Words) (s : ℕ) (self_side : Bool) (amount : ℕ → ℕ) (k m : ℕ) → slot_reward E w s self_side amount k ≡ refused m → m ≡ does_not_fit
 unfolding slot_reward
 slot_refused E w s self_side amount k m e = event_refused _ _ _ _ e
@@ -85,6 +82,31 @@ module _ (f : ℕ → Outcome Parts) where
           let dn = sum_grows (λ i. delegator_in (f i)) (k + 1) n (omega arith) in
           let pn = sum_grows (λ i. publisher_in (f i)) (k + 1) n (omega arith) in
           omega (arith, h.delegators, h.publishers, ap delegator_in e, ap publisher_in e)
+
+-- a turn of the walk over the first n amounts: it is one of the walk, and a step back from the slots so far comes to its slot t
+pub record Turn (E : ℕ) (w : Words) (s : ℕ) (self_side : Bool) (amounts : List ℕ) (k t : ℕ) (o : Outcome Parts) : Type 0 where
+  pub within : k < walk_length E w
+  pub next : t ≡ slot_from E w (k + 1)
+  pub earns : slot_reward E w s self_side (λ i. get_or amounts i 0) k ≡ o
+
+pub turn : {E : ℕ} {w : Words} {s : ℕ} {self_side : Bool} {amounts : List ℕ} {n k slot t : ℕ} {o : Outcome Parts} → n ≡ walk_length E w
+    → k < length (take n amounts) → slot ≡ slot_from E w k → t ≡ slot_before E slot
+    → o ≡ event_reward (event_of w t s) (get_or (take n amounts) k 0) self_side → 1 ≤ E → Turn E w s self_side amounts k t o
+unfolding slot_reward
+turn {E} {w} {s} {self_side} {amounts} {n} {k} {slot} {t} {o} steps within at back r low = record {
+  within = lt;
+  next = slot_kept E w k t is;
+  earns = earns;
+}
+  where
+    lt : k < walk_length E w
+    lt = omega (arith, length-take n amounts)
+
+    is : t ≡ walk_slot E w k
+    is = slot_back E w k slot t low lt at back
+
+    earns : slot_reward E w s self_side (λ i. get_or amounts i 0) k ≡ o
+    earns = rw (sym is, sym (get_or-take n amounts k 0 (omega (arith, length-take n amounts)))) (sym r)
 
 -- it depends on the rewards of the first n slots alone
 pub reward_sum_same : (f g : ℕ → Outcome Parts) (n : ℕ) → ((k : ℕ) → k < n → f k ≡ g k) → reward_sum n f ≡ reward_sum n g

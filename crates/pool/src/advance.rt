@@ -86,7 +86,8 @@ pub fn advance(
     }
 }
 
-// What an advance would set aside, every passed epoch taken at the rolled totals. Nothing is written.
+// What an advance would set aside, every passed epoch taken at the rolled totals. Nothing is written: it stands beside `advance_in` since it is lent
+// the pool to be read alone, and what both do is `plan`.
 #[tactic(auto, unfolding(advance_plan::specs::Advance::forecast_of, advance_plan::specs::Plan::planned_of, advance_plan::specs::Plan::sum_of))]
 fn forecast_in<const P: usize>(
     pool: PoolData<'_>,

@@ -63,9 +63,9 @@ fn change_side<F: FnOnce(DelegationState) -> Result<DelegationState, Refusal>>(
     ensures { SideChanges (F.post change) pool.old pool.new s account result }
 {
     let found = pool.read();
-    let is_self = found.is_self_side(s, account);
-    let becomes = change(found.side(s, is_self))?;
-    pool.set_side(s, is_self, becomes);
+    let side = found.account_side(s, account);
+    let becomes = change(found.side(s, side))?;
+    pool.set_side(s, side, becomes);
     Ok(())
 }
 

@@ -59,7 +59,7 @@ fn slot_reward(
 
 // The rewards of the amounts in the ring slots, newest first, added up, on the publisher's own side or
 // the other. Both sums together stay a word. There is no heap: the amounts stand in an array with the ring's room.
-#[tactic(auto, using(event_walk::proofs::WalkLaws::before_lt, event_walk::proofs::WalkLaws::slot_back, crate::proofs::RewardLaws::slot_earns, crate::proofs::RewardLaws::sum_paid, crate::proofs::RewardLaws::sum_13_sums))]
+#[tactic(auto, using(event_walk::proofs::WalkLaws::before_lt, crate::proofs::RewardLaws::sum_paid))]
 fn reward_sum(
     pool: PoolData<'_>,
     s: usize,
@@ -72,9 +72,9 @@ fn reward_sum(
     let mut slot = (pool.num_events() % (pool.e as u64)) as usize;
     let mut delegators: u64 = 0;
     let mut publishers: u64 = 0;
-    for k in 0..walk_length(pool) {
+    for amount in &amounts[..walk_length(pool)] {
         slot = slot_before(slot, pool.e);
-        let reward = slot_reward(pool, slot, s, amounts[k], is_publisher)?;
+        let reward = slot_reward(pool, slot, s, *amount, is_publisher)?;
         let delegator = reward.delegator_reward.0;
         let publisher = reward.publisher_reward.0;
         let sum = (delegators + publishers)

@@ -14,8 +14,10 @@ use borrow.Author.Tests.{lt-ltb, le-ltb, ltb-true}
 use Rattle.std.specs.Simd.{first_chunks}
 use Rattle.std.proofs.lemmas.List.{get_or-take, get_or-drop, length-take, length-drop, take-take, drop-take, drop-drop}
 use Rattle.types.proofs.Below.{and_left, and_right, all_each, all_not, all_at}
-use Rattle.publisher_caps.specs.Key.{big_endian, little_endian}
+use Rattle.publisher_caps.specs.Key.{big_endian, little_endian, number_by}
 use Rattle.publisher_caps.specs.Message.{key_at, cap_at, key_word, row_of, key_before, ascends, none_zero}
+use Rattle.publisher_caps.specs.declared.key.KeyNumber.{KeyNumber}
+use Rattle.publisher_caps.proofs.KeyLaws.{Small, lt_of, not_less_says}
 
 -- ---- rows as slices of the message
 
@@ -140,6 +142,21 @@ module _ (m : List ℕ) where
   pub climbs_not : (i rows : ℕ) → i < rows → key_at m i ≤ key_before m i → false ≡ (ascends m rows && none_zero m rows)
   climbs_not zero rows l h = sym (and_right (ascends m rows) (none_zero m rows) (zero_first rows l h))
   climbs_not (suc i) rows l h = sym (and_left (ascends m rows) (none_zero m rows) (ascends_not i rows (omega arith) (rw (add-one i) h)))
+
+  -- k is read of row i of the rows that the message is cut into
+  module _
+      (rows : List (List ℕ)) (n i : ℕ) (d : List ℕ) (k : KeyNumber) (cut : rows ≡ first_chunks 40 n (drop 11 m)) (l : i < n)
+      (read : number_by k ≡ big_endian (get_or rows i d) 0 32)
+    where
+      pub key_read : number_by k ≡ key_at m i
+      key_read = row_key_at m _ i (row_at m rows n i d cut l) _ read
+
+      -- b, the key before, is not below k: so the keys do not climb
+      pub key_not_above :
+          (b : KeyNumber) (t : Bool) → number_by b ≡ key_before m i → Small b → Small k → t ≡ lt_of b k → t ≡ false →
+          false ≡ (ascends m n && none_zero m n)
+      key_not_above b t same small_b small_k test h =
+          climbs_not i n l (omega (arith, not_less_says b k small_b small_k t test h, key_read, same))
 
   -- the tests from what they say of the keys
   pub ordered_holds : (rows : ℕ) → ((i j : ℕ) → i < j → j < rows → key_at m i < key_at m j) → ((i : ℕ) → i < rows → 0 < key_at m i)

@@ -71,6 +71,7 @@ fn key_number(row: &[u8; 40]) -> KeyNumber
 }
 
 // Whether the keys of the first `rows` rows ascend strictly and none is zero: each is above the one before it, the first above zero.
+#[tactic(auto, using(crate::proofs::KeyLaws::number_zero, crate::proofs::RowLaws::climbs_none, crate::proofs::RowLaws::key_not_above, crate::proofs::RowLaws::climbs_all))]
 fn ascending(m: &[u8], rows: usize) -> bool
     requires { 11 + rows * 40 ≤ length m.now }
     ensures { result ≡ (ascends m.now rows && none_zero m.now rows) }
@@ -86,7 +87,8 @@ fn ascending(m: &[u8], rows: usize) -> bool
     true
 }
 
-// The publish time, a signed word: from 2^63 on it is negative.
+// The publish time, a signed word: from 2^63 on it is negative. Free, as the row count is: both take any message
+// of 11 bytes, and as methods alone they would ask for one that has been checked.
 #[tactic(auto, unfolding(crate::specs::Message::time_of))]
 pub fn publish_time(m: &[u8]) -> u64
     requires { 11 ≤ length m.now }

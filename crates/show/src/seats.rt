@@ -7,6 +7,7 @@ ghost use Rattle.show.specs.Rows.{occupied_seats, seat_row};
 use crate::cells::{ShortKey, signed};
 use delegation::DelegationState;
 use image::pool_data::PoolData;
+use image::seats::SeatSide;
 use journal::output::Pen;
 use positions::Key;
 use std::fmt;
@@ -97,7 +98,7 @@ pub fn occupied(pool: PoolData<'_>) -> usize
     ensures within { result ≤ pool.entry.p }
 {
     let mut count = 0;
-    // A `for`: the proof over `filter(..).count()` does not close, since what the test gives is known of seats below P alone.
+    // A `for`. Tried: the proof over `filter(..).count()` does not close, since what the test gives is known of seats below P alone.
     for s in 0..pool.p {
         count += usize::from(has_publisher(pool, s));
     }
@@ -112,8 +113,8 @@ pub fn seat_row(pool: PoolData<'_>, s: usize) -> SeatRow
     SeatRow {
         seat: s,
         publisher: pool.publisher(s),
-        self_side: pool.side(s, true),
-        other_side: pool.side(s, false),
+        self_side: pool.side(s, SeatSide::Own),
+        other_side: pool.side(s, SeatSide::Other),
         fee: pool.delegation_fee(s),
         slash_events: pool.num_slash_events(s),
         stake_account: pool.publisher_stake_account(s),

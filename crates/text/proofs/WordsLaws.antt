@@ -1,7 +1,7 @@
 -- Laws of a list's words: one for each way out of a reader. Assumes nothing.
 use Rattle.std.proofs.Common.{◌≡◌, ℕ, ◌+◌, ◌-◌, ◌<◌, ◌≤◌, List, [], ◌∷◌, ◌++◌, length, take, drop, get_or, set, lt-ltb, ap, sym, ◌∙◌}
 use Rattle.std.proofs.Common.{add-one, drop-cons, length-drop, length-take, append-nil, append_assoc}
-use Rattle.std.proofs.Common.{min, refl, arith, Bool, true, false, cond, ltb, eqb, None, Some, Result, Ok, Err}
+use Rattle.std.proofs.Common.{min, refl, arith, Bool, true, false, cond, ltb, eqb, Option, None, Some, Result, Ok, Err}
 use Rattle.std.proofs.lemmas.Grind.{common_steps}
 use Rattle.std.proofs.lemmas.List.{take_all, take-append-drop}
 use Rattle.std.proofs.Math.ListN.{drop_of_length-le}
@@ -10,9 +10,10 @@ use borrow.Rule.Slice.PartMut.{put_mid}
 use denote.Ref.{Bor}
 use denote.Param.Members.{Mut}
 use Rattle.std.specs.Fn.{CalledAt}
+use Rattle.std.specs.Iterator.{Yields}
 use Rattle.std.specs.Slice.Iter as slice
 use Rattle.std.proofs.lemmas.Iterator.{YieldsList}
-use Rattle.std.proofs.lemmas.Iterator.Consumers.{YieldsList-at}
+use Rattle.std.proofs.lemmas.Iterator.Consumers.{YieldsList-at, YieldsList-turn, YieldsList-end}
 use Rattle.std.proofs.lemmas.Iterator.Splits.{YieldsList-from_slice_split}
 use Rattle.text.specs.declared.items.WordError.{WordError}
 use Rattle.text.specs.declared.items.WordError.TheVariants.{NotWord}
@@ -32,6 +33,16 @@ pub items_road : {F : Type 0} {s t : _} (g : Mut F (Bor ℕ × Unit {0}) Bool) {
     → t ≡ s → slice.split_rest s ≡ words → slice.split_done s ≡ false → slice.split_callee s ≡ f
     → ((x : ℕ) (b : Bool) (q : F) → CalledAt g f x b q → (q ≡ f) × (b ≡ eqb x comma)) → YieldsList (slice.split_steps g) (λ x. x.now) t (items comma words)
 items_road g words e rest done callee calls = YieldsList-at e (YieldsList-from_slice_split g (λ b. eqb b comma) words rest done callee calls)
+
+-- behind n of the list comes r, read by v, or the list ends
+abbrev pub Next : {A B : Type 0} → (A → B) → List B → ℕ → Option A → Type 0
+Next {A} v all n r = (r ≡ None → n ≡ length all) × ((x : A) → r ≡ Some x → (n < length all) × (v x ≡ get_or all n (v x)))
+
+-- what a `for` that has gone over xs goes over next
+pub for_next :
+    {S A B : Type 0} {steps : S → Option A → S → Type 0} {v : A → B} {s : S} {all : List B} → YieldsList steps v s all → (xs : List A) (t : S) →
+    Yields steps s xs t → (r : Option A) (u : S) → steps t r u → Next v all (length xs) r
+for_next e xs t y r u p = (λ is. (YieldsList-end e xs t y r u is p).1, λ x is. YieldsList-turn e xs t y r u x is p)
 
 -- a full room
 pub words_full : (xs : List (List ℕ)) (room k : ℕ) → room ≤ k → words_of xs room k ≡ Ok room

@@ -49,6 +49,7 @@ fn put(item: &[u8], out: &mut [u64]) -> Result<usize, WordError>
 }
 
 // Words with a comma between two items, put at the start of `out`; what is beyond the room is passed over.
+#[tactic(auto, using(crate::proofs::WordsLaws::turn_full))]
 pub fn words(s: &[u8], out: &mut [u64]) -> Result<usize, WordError>
     ensures count { result ≡ words_of (items comma s.now) (length out.old) 0 }
     ensures image { out.new ≡ laid (numbers (items comma s.now)) out.old }

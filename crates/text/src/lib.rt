@@ -97,8 +97,8 @@ pub fn key(s: &[u8]) -> Option<[u64; 4]>
     ])
 }
 
-// Hexadecimal digits as bytes, put at the start of `out`; what is beyond the room is passed over. Written by index: the check has no
-// name for what a loop over `out.iter_mut().zip(..)` has written so far.
+// Hexadecimal digits as bytes, put at the start of `out`; what is beyond the room is passed over. Written by index. Tried: the
+// proof over `out.iter_mut().zip(..)` does not close, since the check has no name for what such a loop has written so far.
 #[tactic(auto, using(std::proofs::lemmas::List::take_min, crate::proofs::HexLaws::hex_pair), unfolding(crate::specs::Hex::bytes_of, crate::specs::Hex::even_of, crate::specs::Hex::spelled, crate::specs::Hex::stored, crate::specs::Hex::byte_at))]
 pub fn bytes(s: &[u8], out: &mut [u8]) -> Option<usize>
     ensures count { result ≡ bytes_of s.now (length out.old) }

@@ -1,7 +1,7 @@
 -- Laws of the floor of a product over a divisor, and the arithmetic of its long division. Assumes nothing.
 use mathlib.Core.Path.{◌≡◌, refl, sym, ap, ◌∙◌}
 use Prim.Native.Nat.{ℕ, ◌+◌, ◌-◌, ◌*◌, ◌/◌, ◌%◌, ◌^◌, ◌≤◌, ◌<◌}
-use native.Mathlib.Nat.{mul-le-mul, div-add-mod', mod-lt, lt_of_mul-lt-mul_right, div-lt_iff_lt-mul, le-div_iff_mul-le}
+use native.Mathlib.Nat.{mul-le-mul, div-add-mod', lt_of_mul-lt-mul_right, div-lt_iff_lt-mul, le-div_iff_mul-le}
 use native.Mathlib.Omega.{arith}
 use lib.Arith.{digits_div, digits_mod}
 use mathlib.Core.Bool.{Bool, true, false}
@@ -55,15 +55,14 @@ upper_below n hi lo d e hl hd = omega arith
 pub upper_above : (n hi lo d : ℕ) → hi * 2 ^ 64 + lo ≡ n → d ≤ hi → d * 2 ^ 64 ≤ n
 upper_above n hi lo d e hd = omega arith
 
--- the ways out of a division by two words
-pub ruleset divisions = (fits_at_law, past_at, upper_below, upper_above)
+-- two words of which the upper one is 0 are divided as one word
+pub one_word : (a b hi lo d : ℕ) (r : Divided) → Division lo d r.quotient r.remainder → hi * 2 ^ 64 + lo ≡ a * b → lo < 2 ^ 64 → hi < d
+    → hi ≡ 0 → Some r ≡ mul_div_of a b d
+one_word a b hi lo d r e p hl hd z =
+    fits_at_law a b d r (record { whole = e.whole ∙ omega arith; small = e.small }) (upper_below (a * b) hi lo d p hl hd)
 
--- the division of a single word
-pub one_word : (n hi lo d : ℕ) → hi * 2 ^ 64 + lo ≡ n → hi ≡ 0 → 0 < d → Division n d (lo / d) (lo % d)
-one_word n hi lo d e z hd = record { whole = div-add-mod' lo d ∙ lo_is; small = mod-lt lo hd }
-  where
-    lo_is : lo ≡ n
-    lo_is = omega arith
+-- the ways out of a division by two words
+pub ruleset divisions = (fits_at_law, past_at, upper_below, upper_above, one_word)
 
 -- what an answer of mul_div_of says
 pub record Floor (a b d : ℕ) (r : Divided) : Type 0 where
@@ -74,17 +73,12 @@ pub record Floor (a b d : ℕ) (r : Divided) : Type 0 where
 abbrev floor : (a b d : ℕ) → Divided
 floor a b d = record { quotient = a * b / d; remainder = a * b % d }
 
--- the floor and the remainder are a division
-floor_at : (a b d : ℕ) → a * b < d * 2 ^ 64 → Some (floor a b d) ≡ mul_div_of a b d
-floor_at a b d h =
-    fits_at_law a b d (floor a b d)
-    (record { whole = div-add-mod' (a * b) d; small = mod-lt (a * b) (omega arith) }) h
-
 -- two factors of one half each: the product is one word
-pub short_at : (a b d : ℕ) → 0 < d → a < 2 ^ 32 → b < 2 ^ 32 → Some (floor a b d) ≡ mul_div_of a b d
-short_at a b d h ha hb =
+pub short_at : (a b d : ℕ) (r : Divided) → Division (a * b) d r.quotient r.remainder → 0 < d → a < 2 ^ 32 → b < 2 ^ 32
+    → Some r ≡ mul_div_of a b d
+short_at a b d r e h ha hb =
     let p : a * b ≤ (2 ^ 32 - 1) * (2 ^ 32 - 1) = half_product a b ha hb in
-    floor_at a b d (omega arith)
+    fits_at_law a b d r e (omega arith)
 
 pub fits_says : (a b d : ℕ) (r : Divided) → mul_div_of a b d ≡ Some r → Floor a b d r
 unfolding mul_div_of

@@ -41,7 +41,7 @@ impl BoolArray {
     pub fn count(&self) -> usize
         ensures { result ≡ marked_rows self.now.words }
     {
-        // A loop, since the proof of a sum over `iter()` does not know that each word fits.
+        // A loop. Tried: the proof of a sum over `iter()` does not close, since it does not know that each word fits.
         let mut count = 0;
         for w in &self.words {
             count += w.count_ones() as usize;

@@ -12,6 +12,19 @@ pub struct Divided {
     pub remainder: u64,
 }
 
+impl Divided {
+    // n over d.
+    fn of(n: u64, d: u64) -> Divided
+        requires { 0 < d }
+        ensures { Division n d result.quotient result.remainder }
+    {
+        Divided {
+            quotient: n / d,
+            remainder: n % d,
+        }
+    }
+}
+
 // x + y over d, for an x below d twice and a remainder y.
 fn sum_over(x: u64, y: u64, d: u64) -> Divided
     requires { (x < 2 * d) × (y < d) }
@@ -39,16 +52,13 @@ fn sum_over(x: u64, y: u64, d: u64) -> Divided
 }
 
 // One digit of long division in base 2^32: h * 2^32 + x over d, for a divisor of one digit. The long division stays as well,
-// since document 01's list for the port has '`u128` becomes two words'.
+// since document 01's list for the port has '`u128` becomes two words'. It is not one function with `digit_long`: for such
+// a divisor e there is 1, so that s may be d twice or more.
 fn digit_short(h: u64, x: u64, d: u64) -> Divided
     requires { (h < d) × (x < 2 ^ 32) × (d < 2 ^ 32) }
     ensures { Division (h * 2 ^ 32 + x) d result.quotient result.remainder }
 {
-    let n = h * BASE + x;
-    Divided {
-        quotient: n / d,
-        remainder: n % d,
-    }
+    Divided::of(h * BASE + x, d)
 }
 
 // The same for a longer divisor. With e the upper half of d, plus 1, the quotient of h by e is a
@@ -105,10 +115,7 @@ fn mul_div_wide(a: u64, b: u64, d: u64) -> Option<Divided>
         return None;
     }
     if hi == 0 {
-        return Some(Divided {
-            quotient: lo / d,
-            remainder: lo % d,
-        });
+        return Some(Divided::of(lo, d));
     }
     Some(divide(hi, lo, d))
 }
@@ -120,11 +127,7 @@ pub fn mul_div(a: u64, b: u64, d: u64) -> Option<Divided>
     ensures { result ≡ mul_div_of a b d }
 {
     if 0 < d && a < BASE && b < BASE {
-        let n = a * b;
-        return Some(Divided {
-            quotient: n / d,
-            remainder: n % d,
-        });
+        return Some(Divided::of(a * b, d));
     }
     mul_div_wide(a, b, d)
 }

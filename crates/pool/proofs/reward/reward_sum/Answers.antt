@@ -1,36 +1,51 @@
 use Rattle.std.proofs.Common.{rules}
 use mathlib.Core.Path.{sym, ap, ◌∙◌}
-use Prim.Native.Nat.{ℕ, ◌<◌, ◌%◌}
+use Prim.Native.Nat.{ℕ, ◌%◌}
 use native.Mathlib.Nat.{mod-lt, sub-zero}
-use native.Mathlib.Omega.{arith}
 use Rattle.std.proofs.lemmas.Result.{err_from_is_err_and}
+use Rattle.types.specs.Base.{outcome_by}
+use Rattle.event.specs.Event.{parts_as}
 use Rattle.image.specs.Pool.{words_of}
-use Rattle.event_walk.proofs.WalkLaws.{slot_from, before_lt, slot_back, slot_kept}
-use Rattle.event_walk.specs.Walk.{walk_length}
-use Rattle.pool.proofs.RewardLaws.{slot_earns, slot_refused, summed_none, summed_more, sum_13_slot}
+use Rattle.event_walk.proofs.WalkLaws.{slot_from, before_lt}
+use Rattle.pool.proofs.RewardLaws.{Turn, turn, sum_13_sums, summed_none, summed_more, sum_13_slot, slot_refused}
 use Rattle.pool.proofs.reward.reward_sum.Goals as goal
+use Rattle.pool.proofs.reward.reward_sum.Goals.{After-slot_reward}
 
-pub loop-k-init : goal.loop-k-init
+pub loop-amount-init : goal.loop-amount-init
 unfolding slot_from
-loop-k-init c =
+loop-amount-init c =
     (mod-lt _ c.args.pool.sized.e_low, ap (λ (n : ℕ). n % c.args.pool.e) (c.num_events.ensures ∙ sym (sub-zero _)), summed_none _)
 
--- in what follows b: the turn is within the walk; i: the slot that it comes to; r: what the amount there earns
+-- of the turn whose slot's reward was worked out, on which four of the goals rest
+here : (c : After-slot_reward) → Turn c.args.pool.e (words_of c.args.pool) c.args.s c.args.is_publisher c.args.amounts.now c.loop-amount.amount-index
+    c.slot_before-slot.result (outcome_by parts_as c.slot_reward.result)
+here c =
+    turn c.walk_length.ensures.steps c.loop-amount-test.true c.loop-amount.invariant.1 c.slot_before-slot.ensures c.slot_reward.ensures
+    c.args.pool.sized.e_low
+
 pub returns-in_err-reward : goal.returns-in_err-reward
 returns-in_err-reward c =
     let p = err_from_is_err_and c.from_residual.result c.from_residual.ensures.1 in
-    let b : c.loop-k.k < walk_length c.args.pool.e (words_of c.args.pool) = omega (arith, c.walk_length-k-end.ensures.steps) in
-    let i = slot_back _ _ _ _ _ c.args.pool.sized.e_low b c.loop-k.invariant.1 c.slot_before-slot.ensures in
-    let r = slot_earns _ _ _ _ _ _ _ _ i c.in_err-reward.ensures in
-    rw (p.1, p.2, slot_refused _ _ _ _ _ _ _ r) (sum_13_slot _ _ _ _ b r)
+    let t = here (goal.at.returns-in_err-reward c).After-slot_reward in
+    let r = t.earns ∙ ap (outcome_by parts_as) c.in_err-reward.was in
+    rw (p.1, p.2, slot_refused _ _ _ _ _ _ _ r) (sum_13_slot _ _ _ _ t.within r)
 
-pub loop-k-preserved : goal.loop-k-preserved
-loop-k-preserved c =
-    let b : c.loop-k.k < walk_length c.args.pool.e (words_of c.args.pool) = omega (arith, c.walk_length-k-end.ensures.steps) in
-    let i = slot_back _ _ _ _ _ c.args.pool.sized.e_low b c.loop-k.invariant.1 c.slot_before-slot.ensures in
-    let r = slot_earns _ _ _ _ _ _ _ _ i c.in_ok-reward.ensures in
-    let f = c.loop-k.invariant.2.fits in (
-      before_lt _ _ _ c.loop-k.invariant.0 c.slot_before-slot.ensures,
-      slot_kept _ _ _ _ i,
-      summed_more _ _ _ _ _ _ c.loop-k.invariant.2 r (search rules),
+pub returns-in_err-sum : goal.returns-in_err-sum
+returns-in_err-sum c =
+    let t = here (goal.at.returns-in_err-sum c).After-slot_reward in
+    let past = sum_13_sums _ _ _ _ _ _ _ t.within c.loop-amount.invariant.2 (t.earns ∙ ap (outcome_by parts_as) c.in_ok-reward.was) in
+    search rules
+
+pub returns-in_err-ok_or : goal.returns-in_err-ok_or
+returns-in_err-ok_or c =
+    let t = here (goal.at.returns-in_err-ok_or c).After-slot_reward in
+    let past = sum_13_sums _ _ _ _ _ _ _ t.within c.loop-amount.invariant.2 (t.earns ∙ ap (outcome_by parts_as) c.in_ok-reward.was) in
+    search rules
+
+pub loop-amount-preserved : goal.loop-amount-preserved
+loop-amount-preserved c =
+    let t = here (goal.at.loop-amount-preserved c).After-slot_reward in (
+      before_lt _ _ _ c.loop-amount.invariant.0 c.slot_before-slot.ensures,
+      t.next,
+      summed_more _ _ _ _ _ _ c.loop-amount.invariant.2 (t.earns ∙ ap (outcome_by parts_as) c.in_ok-reward.was) (search rules),
     )

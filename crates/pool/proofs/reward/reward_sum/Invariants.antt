@@ -7,7 +7,7 @@ use Rattle.pool.specs.Reward.{slot_reward}
 use Rattle.pool.proofs.RewardLaws.{Summed}
 use Rattle.pool.proofs.reward.reward_sum.Given as goal
 
-abbrev pub invariant-loop-k : goal.invariant-loop-k
-invariant-loop-k l =
-    (l.slot < l.pool.e) × (l.slot ≡ slot_from l.pool.e (words_of l.pool) l.k)
-    × Summed (slot_reward l.pool.e (words_of l.pool) l.s l.is_publisher (λ (i : ℕ). get_or l.amounts i 0)) l.k l.delegators l.publishers
+abbrev pub invariant-loop-amount : goal.invariant-loop-amount
+invariant-loop-amount l =
+    (l.slot < l.pool.e) × (l.slot ≡ slot_from l.pool.e (words_of l.pool) l.amount-index)
+    × Summed (slot_reward l.pool.e (words_of l.pool) l.s l.is_publisher (λ (i : ℕ). get_or l.amounts i 0)) l.amount-index l.delegators l.publishers
