@@ -1,4 +1,4 @@
--- A cleared list is one list, and a pool that is lent or written is one pool. Assumes nothing.
+-- A cleared list is one list, a pool that is lent or written is one pool, and a side has one name. Assumes nothing.
 use mathlib.Core.Path.{◌≡◌, sym, ◌∙◌}
 use mathlib.Core.List.{List}
 use Prim.Native.Nat.{ℕ}
@@ -9,14 +9,24 @@ use Rattle.std.specs.Borrow.{MutBor}
 use Rattle.types.specs.declared.refusals.Refusal.{Refusal}
 use Rattle.image.specs.declared.pool_data.PoolData.{PoolData}
 use Rattle.image.specs.declared.pool_data.PoolDataMut.{PoolDataMut}
+use Rattle.image.specs.declared.seats.SeatSide.{SeatSide}
+use Rattle.image.specs.declared.seats.SeatSide.TheVariants.{Own, Other}
 use Rattle.image.specs.Layout.{Words}
 use Rattle.image.specs.Seats.{Cleared}
+use Rattle.image.specs.Changes.{side_named}
 use Rattle.image.specs.Pool.{Lent, LentMut, Becomes}
 
 -- two lists that are cleared of the same list are the same
 pub cleared_fixes : (old a b : List ℕ) → Cleared old a → Cleared old b → a ≡ b
 cleared_fixes old a b x y =
     ext_get_or 0 a b (x.long ∙ sym y.long) (λ i l. x.zeros i (omega arith) ∙ sym (y.zeros i (omega arith)))
+
+-- two sides with the same name are the same
+pub side_named_fixes : (a b : SeatSide) → side_named a ≡ side_named b → a ≡ b
+side_named_fixes Own Own e = cc
+side_named_fixes Own Other e = cc
+side_named_fixes Other Own e = cc
+side_named_fixes Other Other e = cc
 
 -- a pool's list, seats and events
 abbrev pub figures : Result PoolData Refusal → Result (List ℕ × (ℕ × ℕ)) Refusal
