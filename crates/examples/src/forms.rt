@@ -85,6 +85,7 @@ impl Row<'_> {
         print!(self.to; "{name}: {form_name} {number}, {agreement} {core_name}")
     }
 
+    // `map` asks that the array of records has its room in memory: the bound stands here and in two callers, where a type for it is no plainer.
     pub fn lent_payment<const N: usize>(
         &self,
         positions: &[[u64; 9]; N],

@@ -12,7 +12,7 @@ use std::{fs, io};
 // What a path's bytes are below, the 0 that the system has behind them counted.
 const PATH_MAX: usize = 4096;
 
-// The error where nothing stands at a path.
+// The error where nothing stands at a path, by its number as the definition has it (`failed_of`): another error may be of the kind `NotFound` too.
 const ENOENT: i32 = 2;
 
 // What stands at a path; a link is not followed.

@@ -1,11 +1,13 @@
 -- Laws of a file's bytes and its words: one word more. Assumes nothing.
-use Rattle.std.proofs.Common.{◌≡◌, ℕ, ◌+◌, ◌*◌, ◌<◌, List, zero, suc, refl, length, take, drop, get_or, set, arith, add-one, ap, ◌∙◌}
+use Rattle.std.proofs.Common.{◌≡◌, ℕ, ◌+◌, ◌*◌, ◌<◌, List, refl, length, take, drop, get_or, set, arith, add-one, ap, ◌∙◌}
 use Rattle.std.proofs.lemmas.Slice.{take-put_mid}
-use Rattle.std.proofs.lemmas.List.{get_or-take, get_or-drop, drop-drop}
+use Rattle.std.proofs.lemmas.List.{get_or-take, get_or-drop}
 use Rattle.std.proofs.Math.Seq.{take-suc-set}
 use Rattle.std.specs.Int.{to_le_bytes, from_le_bytes, w64}
 use Rattle.std.specs.Simd.{first_chunks}
 use borrow.Rule.Slice.PartMut.{put_mid}
+use Rattle.types.proofs.ListLaws.{chunk_at}
+use Rattle.text.proofs.KeyLaws.{low_first_sum}
 use Rattle.files.specs.Words.{word_at, words_of, eight, bytes_of}
 
 -- the bytes of a word
@@ -22,13 +24,6 @@ bytes_more l out new i k e h n q =
     let m : length new ≡ 8 = ap length q in
     rw (take-put_mid (i * 8) k out new ((i + 1) * 8) (omega arith) (omega arith), e, r, add-one i)
 
--- the word of eight bytes
-word_sum :
-    (l : List ℕ) → from_le_bytes w64 l
-    ≡ get_or l 0 0 + get_or l 1 0 * 0x100 + get_or l 2 0 * 0x1_0000 + get_or l 3 0 * 0x100_0000 + get_or l 4 0 * 0x1_0000_0000
-    + get_or l 5 0 * 0x100_0000_0000 + get_or l 6 0 * 0x1_0000_0000_0000 + get_or l 7 0 * 0x100_0000_0000_0000
-word_sum l = refl
-
 word_is : (s : List ℕ) (at : ℕ) → from_le_bytes w64 (take 8 (drop at s)) ≡ word_at s at
 unfolding word_at
 word_is s at =
@@ -42,17 +37,11 @@ word_is s at =
     let f = r 5 (at + 5) (omega arith) (omega arith) in
     let g = r 6 (at + 6) (omega arith) (omega arith) in
     let h = r 7 (at + 7) (omega arith) (omega arith) in
-    rw word_sum (omega arith)
-
-chunk_at : (s : List ℕ) (n i : ℕ) (d : List ℕ) → i < n → get_or (first_chunks 8 n s) i d ≡ take 8 (drop (i * 8) s)
-chunk_at s zero i d h = absurd (omega arith)
-chunk_at s (suc n) zero d h = refl
-chunk_at s (suc n) (suc i) d h =
-    let e : 8 + i * 8 ≡ suc i * 8 = omega arith in chunk_at (drop 8 s) n i d (omega arith) ∙ ap (take 8) (drop-drop (i * 8) 8 s ∙ ap (λ k. drop k s) e)
+    rw (low_first_sum (take 8 (drop at s))) (omega arith)
 
 pub words_more :
     (s out : List ℕ) (chunks : List (List ℕ)) (n i w : ℕ) (d : List ℕ) → take i out ≡ words_of s i → chunks ≡ first_chunks 8 n s → i < n → i < length out →
     w ≡ from_le_bytes w64 (get_or chunks i d) → take (i + 1) (set out i w) ≡ words_of s (i + 1)
 unfolding words_of
 words_more s out chunks n i w d e c h l q =
-    let r : w ≡ word_at s (i * 8) = q ∙ rw (c, chunk_at s n i d h) (word_is s (i * 8)) in rw (add-one i, take-suc-set out i w l, e, r)
+    let r : w ≡ word_at s (i * 8) = q ∙ rw (c, chunk_at 8 n i s d h) (word_is s (i * 8)) in rw (add-one i, take-suc-set out i w l, e, r)

@@ -15,7 +15,6 @@ use file_type::FileType;
 use std::fs::{self, OpenFile};
 use std::process::Process;
 use std::rt::Files;
-use std::str;
 use text::items;
 
 // Why a load gives no words: the file ends within a word, or can't be read.

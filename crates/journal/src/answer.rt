@@ -16,7 +16,7 @@ pub fn ok(pen: &mut Pen, values: &[u64])
     ensures { array_vec_len pen.new.buffer ≤ ROOM }
 {
     pen.text("ok");
-    // By `number`: with `write!`, tried, an image of zeros takes twice its time.
+    // By `number`: with `write!`, tried, an image of zeros takes 2.1 of its time, where no call may take more than 1.05 of what it took.
     for value in values {
         pen.byte(b' ');
         pen.number(*value);

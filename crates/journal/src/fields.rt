@@ -55,8 +55,8 @@ pub fn unended(kind: Kind, stop: Stop) -> Result<(), Fault>
     Ok(())
 }
 
-// A word list, or a part of one: where it is whole, `-` is the empty one. How many words it has. `whole` is the definition's own: ListRead says of both
-// what is read, and of a part that it grows.
+// A word list, or a part of one: where it is whole, `-` is the empty one. How many words it has. `whole` is a `bool`, since one contract, ListRead,
+// says of both what is read, and of a part that it grows: two functions would each have to say it.
 fn list(s: &[u8], whole: bool, out: &mut [u64]) -> Result<usize, WordError>
     ensures { ListRead whole s.now out.old out.new result }
 {

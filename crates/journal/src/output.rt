@@ -10,9 +10,9 @@ use std::io::{Stdout, Write};
 // The buffer's bytes.
 pub const ROOM: usize = 65536;
 
-// Standard output, which has no equality, what waits to be written to it, and whether every write so far took all its bytes: `ok` is asked by a test alone,
-// and an enum would be turned into it. `within` stands again in the contracts of the functions that write text: of what the system decides it is all
-// that they can say, and no public function is without a contract.
+// Standard output, which has no equality, what waits to be written to it, and whether every write so far took all its bytes: `ok` is a yes or no to all who
+// ask, and an enum would be turned into it. `within` stands again in the contracts of the functions that write text: of what the system decides it is all
+// that they can say, and no public function of this library is without a contract.
 #[derive(Drop)]
 pub struct Pen {
     stdout: Stdout,

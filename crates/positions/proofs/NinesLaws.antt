@@ -7,10 +7,10 @@ use native.Mathlib.Omega.{arith}
 use lib.ListN.{length, get_or, take, drop}
 use Rattle.std.specs.Prelude.{IsTrue, ◌↔◌, All, Any}
 use Rattle.std.specs.Simd.{first_chunks}
-use Rattle.std.proofs.lemmas.List.{get_or-take, get_or-drop, drop-drop}
+use Rattle.std.proofs.lemmas.List.{get_or-take, get_or-drop}
 use Rattle.types.specs.Base.{all_below, any_below}
 use Rattle.types.proofs.Below.{all_same, any_same}
-use Rattle.types.proofs.ListLaws.{all_list, any_list}
+use Rattle.types.proofs.ListLaws.{all_list, any_list, chunk_at}
 use Rattle.positions.specs.declared.Key.{Key}
 use Rattle.positions.proofs.KeyLaws.{by_words}
 use Rattle.positions.specs.Positions.{key_from, position_from, position_holds, in_publisher}
@@ -20,20 +20,13 @@ pub nines_length : (n : ℕ) (words : List ℕ) → length (first_chunks 9 n wor
 nines_length zero words = refl
 nines_length (suc n) words = ap (λ (k : ℕ). suc k) (nines_length n (drop 9 words))
 
--- nine i of them
-nine_at : (n i : ℕ) (words d : List ℕ) → i < n → get_or (first_chunks 9 n words) i d ≡ take 9 (drop (i * 9) words)
-nine_at zero i words d h = absurd (omega arith)
-nine_at (suc n) zero words d h = refl
-nine_at (suc n) (suc i) words d h =
-    nine_at n i (drop 9 words) d (omega arith) ∙ ap (λ (l : List ℕ). take 9 l) (drop-drop (i * 9) 9 words ∙ ap (λ (k : ℕ). drop k words) (omega arith))
-
 -- nine i of a list's whole nines, whatever stands for one past the last
 module _ (words : List ℕ) (i : ℕ) (inside : i < length words / 9) (d : List ℕ) where
   abbrev nine : List ℕ
   nine = get_or (first_chunks 9 (length words / 9) words) i d
 
   nine_is : nine ≡ take 9 (drop (i * 9) words)
-  nine_is = nine_at (length words / 9) i words d inside
+  nine_is = chunk_at 9 (length words / 9) i words d inside
 
   -- its words
   pub nine_word : (k : ℕ) → k < 9 → get_or nine k 0 ≡ get_or words (i * 9 + k) 0

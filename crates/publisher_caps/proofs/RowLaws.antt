@@ -14,6 +14,7 @@ use borrow.Author.Tests.{lt-ltb, le-ltb, ltb-true}
 use Rattle.std.specs.Simd.{first_chunks}
 use Rattle.std.proofs.lemmas.List.{get_or-take, get_or-drop, length-take, length-drop, take-take, drop-take, drop-drop}
 use Rattle.types.proofs.Below.{and_left, and_right, all_each, all_not, all_at}
+use Rattle.types.proofs.ListLaws.{chunk_at}
 use Rattle.publisher_caps.specs.Key.{big_endian, little_endian, number_by}
 use Rattle.publisher_caps.specs.Message.{key_at, cap_at, key_word, row_of, key_before, ascends, none_zero}
 use Rattle.publisher_caps.specs.declared.key.KeyNumber.{KeyNumber}
@@ -37,17 +38,11 @@ rows_taken m rows s es h =
     let many : length s / 40 ≡ rows = rw long (omega arith) in
     rw (many, es, cut) (taken rows (drop 11 m))
 
-chunk_at : (n i : ℕ) (s d : List ℕ) → i < n → get_or (first_chunks 40 n s) i d ≡ take 40 (drop (i * 40) s)
-chunk_at zero i s d h = absurd (omega arith)
-chunk_at (suc n) zero s d h = refl
-chunk_at (suc n) (suc i) s d h =
-    chunk_at n i (drop 40 s) d (omega arith) ∙ ap (λ (l : List ℕ). take 40 l) (drop-drop (i * 40) 40 s ∙ ap (λ (k : ℕ). drop k s) (omega arith))
-
 module _ (m : List ℕ) where
   -- row i of them
   pub row_at : (rows : List (List ℕ)) (n i : ℕ) (d : List ℕ) → rows ≡ first_chunks 40 n (drop 11 m) → i < n → get_or rows i d ≡ take 40 (drop (11 + i * 40) m)
   row_at rows n i d e h =
-      ap (λ (l : List (List ℕ)). get_or l i d) e ∙ chunk_at n i (drop 11 m) d h
+      ap (λ (l : List (List ℕ)). get_or l i d) e ∙ chunk_at 40 n i (drop 11 m) d h
       ∙ ap (λ (l : List ℕ). take 40 l) (drop-drop (i * 40) 11 m ∙ ap (λ (k : ℕ). drop k m) (omega arith))
 
   -- its bytes are the message's

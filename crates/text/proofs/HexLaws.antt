@@ -1,7 +1,8 @@
 -- Laws of hexadecimal digits and the bytes that they spell. Assumes nothing.
 use Rattle.std.proofs.Common.{◌≡◌, ℕ, ◌+◌, ◌*◌, ◌/◌, ◌<◌, ◌≤◌, List, [], ◌∷◌, zero, suc, Bool, true, false, refl, min, leb, leb-true, leb-false, eq-eqb, length, length-take, take, drop, get_or, arith, sym, ap, ap₂, add-one, set, Option, ◌∙◌, Some, is_some}
+use Rattle.types.proofs.ListLaws.{chunk_at}
 use Rattle.std.specs.Simd.{first_chunks}
-use Rattle.std.proofs.lemmas.List.{take_all, get_or-take, get_or-drop, drop-drop}
+use Rattle.std.proofs.lemmas.List.{take_all, get_or-take, get_or-drop}
 use Rattle.std.proofs.lemmas.Grind.{common_steps}
 use Rattle.text.specs.Hex.{nibble_of, all_hex, pair_of, byte_at, stored, even_of, bytes_of}
 
@@ -34,18 +35,11 @@ bytes_all s room n is h e = rw (length-take (room * 2) s, ← is, eq-eqb _ _ h, 
         go true q = let l = leb-true _ _ q in let m : n ≡ room * 2 = omega arith in rw m
         go false q = let l = leb-false _ _ q in rw (take_all (room * 2) s (omega arith), take_all n s (omega arith))
 
--- the digits in pairs
-pair_chunk : (n i : ℕ) (s d : List ℕ) → i < n → get_or (first_chunks 2 n s) i d ≡ take 2 (drop (i * 2) s)
-pair_chunk zero i s d h = absurd (omega arith)
-pair_chunk (suc n) zero s d h = refl
-pair_chunk (suc n) (suc i) s d h =
-    pair_chunk n i (drop 2 s) d (omega arith) ∙ ap (λ (l : List ℕ). take 2 l) (drop-drop (i * 2) 2 s ∙ ap (λ (k : ℕ). drop k s) (omega arith))
-
 -- the digits of pair i
 module _ (l : List ℕ) (pairs : List (List ℕ)) (n i : ℕ) (are : pairs ≡ first_chunks 2 n l) (inside : i < n) (d : List ℕ) where
   digit : (k : ℕ) → k < 2 → get_or (get_or pairs i d) k 0 ≡ get_or l (i * 2 + k) 0
   digit k h =
-      ap (λ (p : List (List ℕ)). get_or (get_or p i d) k 0) are ∙ ap (λ (p : List ℕ). get_or p k 0) (pair_chunk n i l d inside)
+      ap (λ (p : List (List ℕ)). get_or (get_or p i d) k 0) are ∙ ap (λ (p : List ℕ). get_or p k 0) (chunk_at 2 n i l d inside)
       ∙ (get_or-take 2 (drop (i * 2) l) k 0 h ∙ get_or-drop (i * 2) l k 0)
 
   pub pair_digits : pair_of (get_or (get_or pairs i d) 0 0) (get_or (get_or pairs i d) 1 0) ≡ pair_of (get_or l (i * 2) 0) (get_or l (i * 2 + 1) 0)

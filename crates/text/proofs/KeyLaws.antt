@@ -21,7 +21,7 @@ stored_at s (suc n) out j h l = grind (arith, common_steps, elements, length-sto
 
 -- eight bytes as a number, the lowest first
 module _ (l : List ℕ) where
-  low_first_sum :
+  pub low_first_sum :
       from_le_bytes w64 l
       ≡ get_or l 0 0 + get_or l 1 0 * 0x100 + get_or l 2 0 * 0x1_0000 + get_or l 3 0 * 0x100_0000 + get_or l 4 0 * 0x1_0000_0000
       + get_or l 5 0 * 0x100_0000_0000 + get_or l 6 0 * 0x1_0000_0000_0000 + get_or l 7 0 * 0x100_0000_0000_0000
