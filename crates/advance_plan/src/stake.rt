@@ -28,7 +28,8 @@ pub struct SeatEpochs {
     pub later: SeatEligible,
 }
 
-// The sums of eligible amounts over the seats, in the first passed epoch and in a later one.
+// The sums of eligible amounts over the seats, in the first passed epoch and in a later one. Beside `SeatEpochs`, and not one type of both: each has
+// its name in the definitions.
 #[derive(Clone, Copy, Debug, PartialEq, Eq)]
 pub struct EligibleSums {
     pub first: Wide,

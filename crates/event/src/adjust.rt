@@ -15,7 +15,7 @@ pub struct Adjusted {
 }
 
 // y and the amount set aside, where only `left` of the rewards r are covered.
-#[tactic(auto, using(crate::proofs::AdjustLaws::lowered_y_le, crate::proofs::AdjustLaws::lowered_aside_le), unfolding(crate::specs::Adjust::lowered_by, crate::specs::Adjust::rewards_of, types::specs::Wide::fit_of))]
+#[tactic(auto, using(crate::proofs::AdjustLaws::lowered_aside_le), unfolding(crate::specs::Adjust::lowered_by, crate::specs::Adjust::rewards_of, types::specs::Wide::fit_of))]
 fn lowered(t: u64, y: u64, left: u64, r: u64) -> Adjusted
     requires { (left < r) × (r ≡ rewards_of t y) }
     ensures { adjusted_as result ≡ lowered_by t y left r }

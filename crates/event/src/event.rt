@@ -29,8 +29,8 @@ pub struct Reward {
     pub publisher_reward: Amount,
 }
 
-// A total shared out between the delegator and the publisher. `is_publisher`, here and below, is the answer of `is_self_side` of image, the
-// definition's `self_side`: the publisher's own stake bears no fee.
+// A total shared out between the delegator and the publisher. `is_publisher`, here and below, is the Rust's own flag, kept by the
+// project's rule that names and forms are the Rust's where it has them: the answer of `is_self_side` of image, whose own stake bears no fee.
 #[tactic(auto, unfolding(crate::specs::Event::shared, types::specs::Wide::fit_of))]
 fn share_out(total: u64, fee: u64, is_publisher: bool) -> Result<Reward, Refusal>
     ensures { outcome_by parts_as result ≡ shared total fee is_publisher }

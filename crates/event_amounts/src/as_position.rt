@@ -5,15 +5,19 @@ ghost use Rattle.positions.specs.Positions.{position_from};
 ghost use Rattle.event_amounts.specs.Records.{record_in};
 
 use positions::position::Position;
-use positions::{Key, list};
+use positions::Key;
 
 pub trait AsPosition {
     // The position that it is.
     ghost as_position: { Self → Position };
 
     // Whether it is one in the publisher. Nothing but its kind and key is looked at.
+    #[tactic(auto, unfolding(crate::specs::Records::record_in))]
     fn in_publisher(&self, publisher: Key) -> bool
-        ensures { result ≡ record_in (as_position self.now) publisher };
+        ensures { result ≡ record_in (as_position self.now) publisher }
+    {
+        self.position().in_publisher(publisher)
+    }
 
     // Its words by name.
     fn position(&self) -> Position
@@ -23,11 +27,6 @@ pub trait AsPosition {
 impl AsPosition for [u64; 9] {
     ghost as_position = { λ nine. position_from nine 0 };
 
-    #[tactic(auto, unfolding(crate::specs::Records::record_in, positions::specs::Positions::in_publisher))]
-    fn in_publisher(&self, publisher: Key) -> bool {
-        list::in_publisher(self, publisher)
-    }
-
     fn position(&self) -> Position {
         Position::from(*self)
     }
@@ -35,11 +34,6 @@ impl AsPosition for [u64; 9] {
 
 impl AsPosition for Position {
     ghost as_position = { λ position. position };
-
-    #[tactic(auto, unfolding(crate::specs::Records::record_in))]
-    fn in_publisher(&self, publisher: Key) -> bool {
-        Position::in_publisher(self, publisher)
-    }
 
     fn position(&self) -> Position {
         *self

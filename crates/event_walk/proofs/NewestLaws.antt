@@ -9,7 +9,7 @@ use lib.ListN.{length, get_or}
 use borrow.Author.Tests.{le-ltb}
 use Rattle.std.proofs.lemmas.List.{get_or_push, get_or_append_left, length-append}
 use Rattle.types.specs.Base.{word}
-use Rattle.types.proofs.Below.{NoneBelow, none_start, none_more}
+use Rattle.types.proofs.Below.{NoneBelow, none_more}
 use Rattle.image.specs.Layout.{Words}
 use Rattle.event_walk.specs.declared.newest.Newest.{Newest}
 use Rattle.event_walk.specs.Walk.{walk_length, walk_epoch, walk_meets, walk_reads}
@@ -23,9 +23,6 @@ module _ (E : ℕ) (w : Words) (from : ℕ) where
     pub young : NoneBelow (λ j. ltb (walk_epoch E w j) from) k
     pub held : (j : ℕ) → j < k → get_or epochs j 0 ≡ walk_epoch E w j
     pub words : (j : ℕ) → j < k → get_or epochs j 0 < word
-
-  pub epochs_start : (epochs : List ℕ) → epochs ≡ [] → EpochsTo epochs 0
-  epochs_start epochs e = rw e (record { many = cc; young = none_start _; held = λ j l. absurd (omega arith); words = λ j l. absurd (omega arith) })
 
   pub epochs_more : (epochs more : List ℕ) (k epoch : ℕ) → EpochsTo epochs k → more ≡ epochs ++ (epoch ∷ []) → epoch ≡ walk_epoch E w k → from ≤ epoch
       → epoch < word → EpochsTo more (k + 1)

@@ -35,7 +35,7 @@ pub fn walk_length(pool: PoolData<'_>) -> usize
 }
 
 // Reads the epochs of the newest events up to the first that is older than `from`.
-#[tactic(auto, using(crate::proofs::WalkLaws::before_lt, crate::proofs::WalkLaws::slot_start, crate::proofs::NewestLaws::epochs_start))]
+#[tactic(auto, using(crate::proofs::WalkLaws::before_lt, crate::proofs::WalkLaws::slot_start))]
 pub fn read_newest(pool: PoolData<'_>, from: u64) -> Newest
     ensures { NewestOf pool.entry.e (words_of pool.entry) from result }
 {

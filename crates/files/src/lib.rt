@@ -55,9 +55,7 @@ impl From<std::io::Error> for SaveError {
 pub fn load(rt: &impl Files, path: &[u8], room: &mut [u64]) -> Result<usize, LoadError>
     ensures { IfOk result (λ count. count ≤ length room.old) }
 {
-    let Ok(path) = str::from_utf8(path) else {
-        return Err(LoadError::CannotRead);
-    };
+    let path = str::from_utf8(path).map_err(|_error| LoadError::CannotRead)?;
     let mut file = fs::open(rt, path)?;
     let mut buffer = io::large_buffer();
     read::load_all(&mut file, &mut buffer, room)
@@ -82,9 +80,7 @@ pub fn save(rt: &impl Files, process: Process, path: &[u8], pool: &[u64]) -> Res
         FileType::Nothing | FileType::Regular => {}
         FileType::Other => return Err(SaveError::CannotWrite),
     }
-    let Ok(path) = str::from_utf8(path) else {
-        return Err(SaveError::CannotWrite);
-    };
+    let path = str::from_utf8(path).map_err(|_error| SaveError::CannotWrite)?;
     let folder = fs::open(rt, folder_of(path))?;
     second::save_by(rt, process, path, pool)?;
     folder

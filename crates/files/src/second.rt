@@ -70,9 +70,7 @@ pub fn save_by(rt: &impl Files, process: Process, path: &str, pool: &[u64]) -> R
     ensures { LongRefused path.now result }
 {
     let number = number_of(std::process::id(process).cast_signed());
-    let Some(second) = make(rt, path, number) else {
-        return Err(SaveError::CannotWrite);
-    };
+    let second = make(rt, path, number).ok_or(SaveError::CannotWrite)?;
     save_as(rt, second, path, pool)?;
     Ok(())
 }

@@ -17,7 +17,7 @@ pub const MAX_PUBLISHERS: usize = 1024;
 
 pub const MAX_EVENTS: usize = 52;
 
-// Where slot t's event begins. It takes P alone, since a pool that is read, one that is written and `size`, which has no pool, ask it.
+// Where slot t's event begins. It takes P alone, since a pool that is read, one that is written and `num_events_at`, which has no pool, ask it.
 pub fn event_at(p: usize, t: usize) -> usize
     requires { (p ≤ 1024) × (t ≤ 52) }
     ensures { result ≡ event_at p t }
@@ -33,8 +33,8 @@ pub fn num_events_at(p: usize, e: usize) -> usize
     event_at(p, e)
 }
 
-// The words of a pool of p seats and e events, asked before there is a pool. Where there is no such pool it is 0, as many as are laid out then: of
-// an `Option` 0 would be made.
+// The words of a pool of p seats and e events, asked before there is a pool. Where there is no such pool it is 0, as its definition says:
+// a public function that could not fail still cannot, and `new` lays out as many.
 #[tactic(auto, using(crate::proofs::PlaceLaws::slot_small), unfolding(crate::specs::Seats::size_of))]
 pub fn size(p: usize, e: usize) -> usize
     ensures is { result ≡ size_of p e }

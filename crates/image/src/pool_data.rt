@@ -4,7 +4,8 @@ ghost use Rattle.image.specs.Seats.{Sized, checked_image};
 
 use types::refusals::Refusal;
 
-// A pool that is read.
+// A pool that is read. That s is one of its seats is asked by each function that takes both, as a slice asks it of an index: a struct of both would
+// be made anew for each seat of a loop, and could not stand while the pool is written.
 #[derive(Clone, Copy, Debug, PartialEq, Eq)]
 pub struct PoolData<'a> {
     pub words: &'a [u64],
@@ -26,7 +27,7 @@ pub struct PoolDataMut<'a> {
 impl<'a> PoolData<'a> {
     ghost use Rattle.image.specs.Pool.{Lent};
 
-    // A pool of the right size, or refusal 1.
+    // A pool of the right size with an event count below 2^63, or refusal 1.
     #[tactic(auto, using(crate::proofs::SeatLaws::checked_sized))]
     pub fn check(words: &'a [u64], p: usize, e: usize) -> Result<PoolData<'a>, Refusal>
         ensures { Lent p e words.now result }

@@ -1,5 +1,5 @@
 // The public calls. Nothing is required of the caller: what does not hold is refused, with document 01's number, and a refused call changes
-// no word.
+// no word. So each call takes the words with P and E: a struct of them that had been checked would ask more, and one that had not would say no more.
 #![tactic(auto)]
 
 ghost use Rattle.std.specs.Prelude.{◌≡◌, ◌<◌, OnOk};

@@ -139,9 +139,7 @@ fn payment_of(
 {
     let s = pool.get_publisher_index(claim.publisher)?;
     up_to_date(pool, claim.current_epoch)?;
-    let Some(gathered) = gathered else {
-        return Err(Refusal::DoesNotFit);
-    };
+    let gathered = gathered.ok_or(Refusal::DoesNotFit)?;
     let is_publisher = pool.is_self_side(s, claim.stake_account_positions);
     let earned = calculate_reward(pool, s, &gathered, is_publisher)?;
     let stake_account = pool.publisher_stake_account(s);

@@ -44,9 +44,7 @@ pub fn create_slash_event(
     if found.num_slash_events(s) != index {
         return Err(Refusal::InvalidSlashEventIndex);
     }
-    let Some(count) = index.checked_add(1) else {
-        return Err(Refusal::DoesNotFit);
-    };
+    let count = index.checked_add(1).ok_or(Refusal::DoesNotFit)?;
     PoolDataMut::new(pool, p, e).set_num_slash_events(s, count);
     Ok(current_epoch)
 }
@@ -77,10 +75,7 @@ fn slash_order(slashing: &Slashing) -> Result<u64, Refusal>
     if wrong_order(index, next, event, current) {
         return Err(Refusal::WrongSlashEventOrder);
     }
-    let Some(next) = index.checked_add(1) else {
-        return Err(Refusal::DoesNotFit);
-    };
-    Ok(next)
+    index.checked_add(1).ok_or(Refusal::DoesNotFit)
 }
 
 // A slash in its turn changes the pool where it is of the current epoch: one older changes the record alone.

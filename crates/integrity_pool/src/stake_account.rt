@@ -46,9 +46,9 @@ fn first_account(accounts: &StakeAccounts) -> Result<(), Refusal>
 fn later_account(found: Key, old: &[u64], accounts: &StakeAccounts) -> Result<(), Refusal>
     ensures { outcome_of result ≡ later_account found old.now accounts.now accounts.now.current_stake_account_positions }
 {
-    let Some(key) = accounts.current_stake_account_positions else {
-        return Err(Refusal::AccountNotEnoughKeys);
-    };
+    let key = accounts
+        .current_stake_account_positions
+        .ok_or(Refusal::AccountNotEnoughKeys)?;
     if key != found {
         return Err(Refusal::PublisherStakeAccountMismatch);
     }

@@ -118,9 +118,9 @@ impl Input {
         self.end -= self.item;
         self.item = 0;
         let mut stdin = self.stdin;
-        let Ok(count) = stdin.read(&mut self.buffer[self.end..]) else {
-            return Err(Fault::NoInput);
-        };
+        let count = stdin
+            .read(&mut self.buffer[self.end..])
+            .map_err(|_error| Fault::NoInput)?;
         self.end += count;
         Ok(count)
     }

@@ -38,8 +38,8 @@ fn get_event(pool: PoolData<'_>, t: usize, s: usize) -> Event
     }
 }
 
-// What an amount earns in slot t. The event of a slot without an amount is not read. `is_publisher` is the Rust's own flag, here and below: the
-// account is the publisher's, and earns on its own side.
+// What an amount earns in slot t. The event of a slot without an amount is not read. `is_publisher` is a `bool`, here and below, by the project's rule
+// that names and forms are the Rust's where it has them: the account is the publisher's, and earns on its own side.
 #[tactic(auto, using(event::proofs::EventLaws::event_none))]
 fn slot_reward(
     pool: PoolData<'_>,

@@ -37,7 +37,7 @@ pub fn checked(words: &[u64]) -> bool
 }
 
 // Whether a position is one in the publisher. Nothing but its kind and key is looked at.
-#[tactic(auto, unfolding(crate::specs::Positions::in_publisher, crate::specs::Key::same_key))]
+#[tactic(auto, unfolding(crate::specs::Positions::in_publisher))]
 pub fn in_publisher(nine: &[u64; 9], publisher: Key) -> bool
     ensures { result ≡ in_publisher nine.now 0 publisher }
 {
@@ -55,7 +55,7 @@ pub fn has_target_with_parameters_exposure(words: &[u64], publisher: Key) -> boo
 
 // The state of the position that the list is. Any list will do: one that is not one position as
 // it should be is refused, and so is an empty one, which has no state.
-#[tactic(auto, unfolding(crate::specs::State::state_call, crate::specs::Positions::position_holds))]
+#[tactic(auto, unfolding(crate::specs::State::state_call))]
 pub fn position_state(
     position: &[u64],
     current_epoch: Epoch,

@@ -121,9 +121,7 @@ impl Position {
         if self.start_flag != 1 {
             return Ok(PositionState::LOCKED);
         }
-        let Some(end) = start.checked_add(unlocking_duration) else {
-            return Err(Refusal::DoesNotFit);
-        };
+        let end = start.checked_add(unlocking_duration).ok_or(Refusal::DoesNotFit)?;
         if epoch < start {
             Ok(PositionState::PREUNLOCKING)
         } else if epoch < end {

@@ -106,16 +106,10 @@ module _ (m : List ℕ) (whole : Whole m) (from rows key : ℕ) (within : from +
 -- ---- rows that a key can stand in alone
 
 module _ (m : List ℕ) (whole : Whole m) where
-  pub above_none : (low first : ℕ) → low ≡ 0 → AboveFront m low first
-  above_none low first e i b c d l = absurd (omega arith)
-
   pub above_front : (low first rows : ℕ) (k : KeyNumber) → (low ≡ 0 → ⊥) → low ≤ rows → rows ≡ rows_of m → number_by k ≡ key_at m (low - 1)
       → k.1 < word → k.2 < word → k.3 < word → k.0 < first → AboveFront m low first
   above_front low first rows k pos le er e f1 f2 f3 h i b c d l =
       omega (arith, keys_rise m whole i (low - 1) (omega arith) (omega arith), e, less_0 k.0 k.1 k.2 k.3 first b c d h f1 f2 f3)
-
-  pub below_none : (high first : ℕ) → rows_of m ≤ high → BelowRest m high first
-  below_none high first h i b c d l k fb fc fd = absurd (omega arith)
 
   pub below_rest : (high first : ℕ) (k : KeyNumber) → number_by k ≡ key_at m high → first < k.0 → BelowRest m high first
   below_rest high first k e h i b c d l n fb fc fd =

@@ -104,9 +104,6 @@ and_true : (a b : Bool) → a ≡ true → b ≡ true → true ≡ (a && b)
 and_true a b ea eb = rw (ea, eb)
 
 module _ (m : List ℕ) where
-  pub climbs_none : Climbs m 0
-  climbs_none = record { each = λ j l. absurd (omega arith) }
-
   -- one more key, which is then the one before
   pub climbs_more : (i key : ℕ) → Climbs m i → key_before m i < key → key ≡ key_at m i → (key ≡ key_before m (i + 1)) × Climbs m (i + 1)
   climbs_more i key h l e = (e ∙ ap (key_before m) (sym (add-one i)), record { each = λ j k. below j k (ℕ_discrete j i) })

@@ -41,7 +41,7 @@ impl fmt::Display for ShortKey {
             return write!(f, "none");
         }
         let first = FourBytes(key.0);
-        let last = FourBytes(key.3 / 0x1_0000_0000);
+        let last = FourBytes(key.3 >> 32);
         write!(f, "{first}..{last}")
     }
 }

@@ -1,7 +1,9 @@
 // The table's lines on seats: two for each that has a publisher.
 ghost use Rattle.std.specs.Prelude.{◌≡◌, not, ◌≤◌, ◌<◌};
+ghost use Rattle.arrayvec.specs.ArrayVec.{array_vec_len};
 ghost use Rattle.image.specs.Pool.{words_of};
 ghost use Rattle.image.specs.Seats.{empty_seat};
+ghost use Rattle.journal.specs.declared.output.TheConstants.{ROOM};
 ghost use Rattle.show.specs.Rows.{occupied_seats, seat_row};
 
 use crate::cells::{ShortKey, signed};
@@ -92,17 +94,11 @@ pub fn has_publisher(pool: PoolData<'_>, s: usize) -> bool
 }
 
 // How many seats have a publisher.
-#[tactic(auto, using(crate::proofs::RowsLaws::occupied_none, crate::proofs::RowsLaws::occupied_more))]
 pub fn occupied(pool: PoolData<'_>) -> usize
     ensures count { result ≡ occupied_seats pool.entry.p (words_of pool.entry) }
     ensures within { result ≤ pool.entry.p }
 {
-    let mut count = 0;
-    // A `for`. Tried: the proof over `filter(..).count()` does not close, since what the test gives is known of seats below P alone.
-    for s in 0..pool.p {
-        count += usize::from(has_publisher(pool, s));
-    }
-    count
+    (0..pool.p).filter(|&s| has_publisher(pool, s)).count()
 }
 
 // What is shown of seat s.
@@ -122,7 +118,9 @@ pub fn seat_row(pool: PoolData<'_>, s: usize) -> SeatRow
 }
 
 // The heading, and the lines of all seats.
-pub(crate) fn rows(pool: PoolData<'_>, pen: &mut Pen) -> fmt::Result {
+pub(crate) fn rows(pool: PoolData<'_>, pen: &mut Pen) -> fmt::Result
+    ensures { array_vec_len pen.new.buffer ≤ ROOM }
+{
     pen.text("  seat  publisher           side                  total                change");
     pen.text("      fee  slash events  stake account\n");
     for s in 0..pool.p {

@@ -23,9 +23,7 @@ fn next(number: u64, digit: u8) -> Result<u64, NumberError>
     if !digit.is_ascii_digit() {
         return Err(NumberError::NotDigit);
     }
-    let Some(tens) = number.checked_mul(10) else {
-        return Err(NumberError::TooLarge);
-    };
+    let tens = number.checked_mul(10).ok_or(NumberError::TooLarge)?;
     tens.checked_add(u64::from(digit - b'0'))
         .ok_or(NumberError::TooLarge)
 }

@@ -105,7 +105,7 @@ fn divide(hi: u64, lo: u64, d: u64) -> Divided
     }
 }
 
-// The same for factors of any size.
+// The floor of a * b over d, with its remainder, where the floor is a word.
 #[tactic(auto, using(crate::proofs::MulDivLaws::divisions), unfolding(crate::specs::Wide::wide_of))]
 fn mul_div_wide(a: u64, b: u64, d: u64) -> Option<Divided>
     ensures { result ≡ mul_div_of a b d }
@@ -120,8 +120,7 @@ fn mul_div_wide(a: u64, b: u64, d: u64) -> Option<Divided>
     Some(divide(hi, lo, d))
 }
 
-// The floor of a * b over d, with its remainder, where the floor is a word. Two factors of one
-// digit each are the usual case, and take one product and one division.
+// The same. Two factors of one digit each are the usual case, and take one product and one division.
 #[tactic(auto, using(crate::proofs::MulDivLaws::short_at))]
 pub fn mul_div(a: u64, b: u64, d: u64) -> Option<Divided>
     ensures { result ≡ mul_div_of a b d }
