@@ -5,7 +5,6 @@ use Rattle.positions.specs.declared.position.PositionState.{PositionState}
 use Rattle.positions.specs.State.{state_call}
 use Rattle.image.specs.Changes.{Change}
 use Rattle.advance_plan.specs.Advance.{Advanced}
-use Rattle.integrity_pool.specs.declared.payment.DelegationRecord.{DelegationRecord}
 use Rattle.integrity_pool.specs.declared.payment.Payment as paid
 use Rattle.integrity_pool.specs.Calls.{fresh_call, fresh_image, advance_call, advance_image, forecast_call}
 use Rattle.integrity_pool.specs.Changes.{add_call, remove_call, create_slash_event_call, slash_call, fee_call, stake_account_call}
@@ -67,10 +66,6 @@ module _ (site : Site) (fields : Fields) where
   -- state EPOCH POSITION, of which the pool is no part
   abbrev pub state_of : Outcome PositionState
   state_of = state_call (list_of fields) (number_at fields.values.items 0) site.unlocking_duration
-
--- the record's epoch, its next index
-abbrev pub record_told : DelegationRecord → List ℕ
-record_told r = r.last_epoch.0 ∷ r.next_slash_event_index ∷ []
 
 -- the delegator's part, the publisher's part, the record's two, the read count, custody's fall
 abbrev pub payment_told : paid.Payment → List ℕ

@@ -1,7 +1,8 @@
 // A line's call is made, and answered.
 ghost use Rattle.std.specs.Prelude.{◌≡◌};
+ghost use Rattle.integrity_pool.specs.Payment.{record_words};
 ghost use Rattle.pool.specs.Answers.{advanced_list};
-ghost use Rattle.mirror.specs.Calls.{record_told, payment_told};
+ghost use Rattle.mirror.specs.Calls.{payment_told};
 
 use crate::failure::{Failure, check_accounts};
 use crate::site::{Site, next_nonzero};
@@ -25,12 +26,12 @@ fn advanced_values(done: Advanced) -> [u64; 5]
 
 // The record to keep.
 fn record_values(kept: DelegationRecord) -> [u64; 2]
-    ensures { result ≡ record_told kept }
+    ensures { result ≡ record_words kept }
 {
     kept.into()
 }
 
-// The values of a payment's answer.
+// The values of a payment's answer, in the program's own order. Not by `From`: trait and types are of other crates, so that no impl can stand here.
 fn payment_values(paid: Payment) -> [u64; 6]
     ensures { result ≡ payment_told paid }
 {
@@ -49,7 +50,7 @@ fn payment_values(paid: Payment) -> [u64; 6]
 fn nonzero(image: &[u64], pen: &mut Pen) {
     pen.text("ok");
     let mut place = next_nonzero(image, 0);
-    // A `while` over `next_nonzero`, whose contract says which words are passed over: of a `for` over what a filter leaves nothing would be proved.
+    // A `while` over `next_nonzero`: that each word passed over is 0 is what that public function promises, and a `for` over a filter would not call it.
     while place < image.len() {
         // A pen takes all text.
         let _ = write!(pen, " {place}:{}", image[place]);

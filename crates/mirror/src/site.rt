@@ -26,10 +26,8 @@ fn set_zeros(image: &mut ArrayVec<u64, WORDS_ROOM>, count: usize)
     ensures { image.new.items ≡ replicate count 0 }
 {
     image.clear();
-    // One by one: an ArrayVec has no `resize`, and `try_extend_from_slice` would take 1.4 MB of zeros beside it.
-    for _ in 0..count {
-        image.push(0);
-    }
+    // An ArrayVec has no `resize`. All the zeros fit, by the requires.
+    let _ = image.extend(std::iter::repeat_n(0, count));
 }
 
 impl Site {
@@ -110,11 +108,9 @@ pub fn next_nonzero(image: &[u64], from: usize) -> usize
     requires { from ≤ length image.now }
     ensures { NextNonzero image.now from result }
 {
-    // By index. Tried: the proof over `iter().position(..)` of the rest does not close.
-    for place in from..image.len() {
-        if image[place] != 0 {
-            return place;
-        }
-    }
-    image.len()
+    let rest = &image[from..];
+    from + rest
+        .iter()
+        .position(|word| *word != 0)
+        .unwrap_or(rest.len())
 }
