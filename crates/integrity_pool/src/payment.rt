@@ -139,7 +139,10 @@ fn payment_of(
 {
     let s = pool.get_publisher_index(claim.publisher)?;
     up_to_date(pool, claim.current_epoch)?;
-    let gathered = gathered.ok_or(Refusal::DoesNotFit)?;
+    // Not by `ok_or` and `?`: tried, a payment whose 256 positions do not match takes 1.20 of its time, where no call may take more than 1.05.
+    let Some(gathered) = gathered else {
+        return Err(Refusal::DoesNotFit);
+    };
     let is_publisher = pool.is_self_side(s, claim.stake_account_positions);
     let earned = calculate_reward(pool, s, &gathered, is_publisher)?;
     let stake_account = pool.publisher_stake_account(s);
