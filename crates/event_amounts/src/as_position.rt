@@ -4,8 +4,8 @@ ghost use Rattle.positions.specs.declared.position.Position.{Position};
 ghost use Rattle.positions.specs.Positions.{position_from};
 ghost use Rattle.event_amounts.specs.Records.{record_in};
 
-use positions::position::Position;
 use positions::Key;
+use positions::position::Position;
 
 pub trait AsPosition {
     // The position that it is.

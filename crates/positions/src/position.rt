@@ -121,7 +121,9 @@ impl Position {
         if self.start_flag != 1 {
             return Ok(PositionState::LOCKED);
         }
-        let end = start.checked_add(unlocking_duration).ok_or(Refusal::DoesNotFit)?;
+        let end = start
+            .checked_add(unlocking_duration)
+            .ok_or(Refusal::DoesNotFit)?;
         if epoch < start {
             Ok(PositionState::PREUNLOCKING)
         } else if epoch < end {
