@@ -52,7 +52,8 @@ fn lower(delta: u64, amount: u64) -> Result<u64, Refusal>
 
 impl DelegationState {
     // Into the next epoch: total + change, and change 0. The signed sum is the words' sum modulo 2^64, so that no branch depends on the sign.
-    // Tried by `checked_add` of i64, whose result is turned back into a word: an advance of 1 epoch with 1,024 rows then took 1.12 of its time.
+    // Tried by `checked_add` of i64, whose result is turned back into a word: an advance of 1 epoch with 1,024 rows then took 1.12 of its time,
+    // where no call may take more than 1.05.
     #[tactic(auto, unfolding(crate::specs::Side::roll_of, crate::specs::Side::roll_fits, crate::specs::Side::rolled))]
     pub fn roll(self) -> Result<DelegationState, Refusal>
         ensures { outcome_by side_of result ≡ roll_of self.total_delegation.0 self.delta_delegation }

@@ -15,7 +15,8 @@ use std::io::{self, Stdout};
 use types::refusals::Refusal;
 use types::{Amount, Epoch, Ratio};
 
-// An example: its name, and the image that its calls are made on, as one of p seats. It holds standard output, which has no equality.
+// An example: its name, and the image that its calls are made on, as one of p seats. It holds standard output, which has no equality, and P
+// beside the image, since it is no image of p seats that some examples are of.
 #[derive(Clone, Copy)]
 pub struct Row<'a> {
     pub to: Stdout,

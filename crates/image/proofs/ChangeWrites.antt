@@ -2,16 +2,18 @@
 use Prim.Native.Nat.{ℕ, zero, suc, ◌+◌, ◌-◌, ◌*◌, ◌<◌}
 use mathlib.Core.Path.{◌≡◌, refl, ap, ◌∙◌}
 use mathlib.Core.Logic.{⊎_elim, ◌≢◌}
+use mathlib.Core.Bool.{Bool, true}
 use mathlib.Core.List.{List}
 use native.Mathlib.Omega.{arith}
 use lib.ListN.{length, set}
 use borrow.Author.Tests.{eq-eqb, ne_eqb}
 use Rattle.types.specs.Base.{refused}
 use Rattle.positions.specs.declared.Key.{Key}
-use Rattle.image.specs.Layout.{publishers, total_delegation, delta_delegation, publisher_stake_accounts, num_slash_events}
+use Rattle.delegation.specs.declared.DelegationState.{DelegationState}
+use Rattle.image.specs.Layout.{self, publishers, total_delegation, delta_delegation, publisher_stake_accounts, num_slash_events}
 use Rattle.image.specs.Layout.{delegation_fees, Field, head, seat, slot, share, Words, size, num_events_at, addr, InRange, read, image}
-use Rattle.image.specs.Seats.{word_of, keyed, FilledFrom}
-use Rattle.image.specs.Changes.{with_slash_events, with_stake_account, with_fees, changed_image}
+use Rattle.image.specs.Seats.{word_of, keyed, FilledFrom, side_at}
+use Rattle.image.specs.Changes.{whose, with_slash_events, with_stake_account, with_fees, changed_image}
 use Rattle.image.proofs.ListLaws.{lt_or_le}
 use Rattle.image.proofs.LayoutLaws.{addr_lt, addr_apart}
 use Rattle.image.proofs.HoldsLaws.{stays}
@@ -104,3 +106,9 @@ module _ (P E : ℕ) (img : List ℕ) (long : length img ≡ size P E) where
 pub refused_leaves : (P E : ℕ) (img : List ℕ) (n : ℕ) → changed_image P E img (refused n) ≡ img
 unfolding changed_image
 refused_leaves P E img n = refl
+
+-- ---- whose stake it is
+
+pub self_read : (P E : ℕ) (img : List ℕ) (s : ℕ) (b : Bool) (r : DelegationState) → b ≡ true
+    → r ≡ side_at (read P E img) s self → r ≡ side_at (read P E img) s (whose b)
+self_read P E img s b r e q = rw e q

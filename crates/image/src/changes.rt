@@ -21,7 +21,8 @@ fn fill_from(words: &mut [u64], at: usize, word: u64)
 }
 
 impl PoolData<'_> {
-    // Whether an account's stake stands on the self side of seat s: it is the publisher's own.
+    // Whether an account's stake stands on the self side of seat s: it is the publisher's own. A `bool`, since the Rust's flag `is_publisher` of event
+    // and pool is given it; what reads or writes a side takes `account_side`.
     #[tactic(auto, unfolding(crate::specs::Changes::self_side, positions::specs::Key::same_key))]
     pub fn is_self_side(self, s: usize, account: Key) -> bool
         requires { s < self.p }

@@ -4,8 +4,8 @@ ghost use Rattle.image.specs.Seats.{Sized, checked_image};
 
 use types::refusals::Refusal;
 
-// A pool that is read. That s is one of its seats is asked by each function that takes both, as a slice asks it of an index: a struct of both would
-// be made anew for each seat of a loop, and could not stand while the pool is written.
+// A pool that is read. That s is one of its seats, or t one of its slots, is asked by each function that takes both, as a slice asks it of an index:
+// a struct of both would be made anew for each turn of a loop, and could not stand while the pool is written.
 #[derive(Clone, Copy, Debug, PartialEq, Eq)]
 pub struct PoolData<'a> {
     pub words: &'a [u64],

@@ -177,7 +177,7 @@ impl Fields {
         self.values.len()
     }
 
-    // The number of field k, 0 where it is none. It and the three below have a `match` each: one generic would be given the same as a closure, and more.
+    // The number of field k, 0 where it is none: a line that was read has one wherever its call asks for one, as the definitions have it. It and the three below have a `match` each: one generic would be given the same as a closure, and more.
     pub fn number(&self, k: usize) -> u64
         ensures { result ≡ number_at self.now.values.items k }
     {
@@ -197,7 +197,7 @@ impl Fields {
         }
     }
 
-    // The state of field k, UNLOCKED where it is none.
+    // The state of field k, UNLOCKED where it is none, as with a number.
     pub fn state(&self, k: usize) -> PositionState
         ensures { result ≡ state_at self.now.values.items k }
     {

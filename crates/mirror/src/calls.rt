@@ -50,7 +50,7 @@ fn payment_values(paid: Payment) -> [u64; 6]
 fn nonzero(image: &[u64], pen: &mut Pen) {
     pen.text("ok");
     let mut place = next_nonzero(image, 0);
-    // A `while` over `next_nonzero`: that each word passed over is 0 is what that public function promises, and a `for` over a filter would not call it.
+    // A `while` over `next_nonzero`: that each word passed over is 0 is what its contract promises, and a `for` over a filter would not call it.
     while place < image.len() {
         // A pen takes all text.
         let _ = write!(pen, " {place}:{}", image[place]);

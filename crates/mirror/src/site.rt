@@ -10,7 +10,8 @@ use journal::fields::{Fields, WORDS_ROOM};
 use std::process::Process;
 use std::rt::Files;
 
-// The image, one word more than the largest at most; P and E; and the settings. A run has one, of 1.4 MB, which no call is to take a copy of, and nothing compares.
+// The image, one word more than the largest at most; P and E, and no `PoolData`, since `new` and `load` leave any of them, which each call checks; and
+// the settings. A run has one, of 1.4 MB, which no call is to take a copy of, and nothing compares.
 #[derive(Drop)]
 pub struct Site {
     pub image: ArrayVec<u64, WORDS_ROOM>,
@@ -103,7 +104,7 @@ impl Site {
     }
 }
 
-// The place of the next word other than 0, or the image's length.
+// The place of the next word other than 0, or the image's length, where a search from behind the last word ends too: an Option would be made of it.
 pub fn next_nonzero(image: &[u64], from: usize) -> usize
     requires { from ≤ length image.now }
     ensures { NextNonzero image.now from result }

@@ -118,7 +118,8 @@ pub fn checked(m: &[u8]) -> bool
     rows <= MAX_CAPS && 11 + rows * 40 <= m.len() && ascending(m, rows)
 }
 
-// In which of so many equal parts of all keys a key is, by its first two bytes.
+// In which of so many equal parts of all keys a key is, by its first two bytes. The bounds of `parts` stand in three contracts: a type of such a number
+// would be made for each of the callers' `ENTRIES - 1`, which their own invariants bound.
 fn part_of(first: u16, parts: usize) -> usize
     requires parts_low { 0 < parts }
     requires parts_high { parts ≤ 4096 }
@@ -167,7 +168,7 @@ impl<'a> PublisherCaps<'a> {
         self.rows
     }
 
-    // The bytes of row i.
+    // The bytes of row i, which each function that takes a row asks to be one of them, as a slice asks it of an index.
     fn row(&self, i: usize) -> &'a [u8; 40]
         requires { i < self.now.rows }
         ensures { result.now ≡ take 40 (drop (11 + i * 40) self.now.message.now) }

@@ -34,7 +34,7 @@ impl fmt::Display for EventRow {
             epoch,
             y,
         } = *self;
-        // Not `writeln!`, whose text ends in a part of its own.
+        // Not `writeln!`, here and in the seats' lines: its line end is a part of its own, for which the output's definition would have one more.
         write!(f, "  {event:>20}  {slot:>20}  {epoch:>20}  {y:>20}\n")
     }
 }

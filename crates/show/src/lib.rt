@@ -54,7 +54,7 @@ fn table(pool: PoolData<'_>, seats: usize, pen: &mut Pen) -> fmt::Result {
     events::rows(pool, pen)
 }
 
-// The answer to `show`: refusal 1, or the table.
+// The answer to `show`: refusal 1, or the table. It takes the words with P and E as they are at hand: they are checked here.
 pub fn show(words: &[u64], p: usize, e: usize, pen: &mut Pen)
     ensures { array_vec_len pen.new.buffer ≤ ROOM }
 {
