@@ -1,5 +1,6 @@
 -- A number that is written in decimal is read back as the same number. Assumes nothing.
-use Rattle.std.proofs.Common.{◌≡◌, ℕ, zero, suc, ◌+◌, ◌-◌, ◌*◌, ◌/◌, ◌%◌, ◌^◌, ◌<◌, ◌≤◌, false, List, [], ◌∷◌, length, ap, ◌∙◌, arith, eq-eqb, ne_eqb, le-ltb, lt-ltb, decimal, Ok}
+use Rattle.std.proofs.Common.{◌≡◌, ℕ, zero, suc, ◌+◌, ◌-◌, ◌*◌, ◌/◌, ◌%◌, ◌^◌, ◌<◌, ◌≤◌, false}
+use Rattle.std.proofs.Common.{List, [], ◌∷◌, length, ap, ◌∙◌, arith, eq-eqb, ne_eqb, le-ltb, lt-ltb, decimal, Ok}
 use native.Mathlib.Nat.{pow-succ'}
 use native.Mathlib.Decide.{ℕ_discrete}
 use Rattle.std.specs.Fmt.{digits_onto, digits}

@@ -177,7 +177,8 @@ impl Fields {
         self.values.len()
     }
 
-    // The number of field k, 0 where it is none: a line that was read has one wherever its call asks for one, as the definitions have it. It and the three below have a `match` each: one generic would be given the same as a closure, and more.
+    // The number of field k, 0 where it is none, as the definition has it: a line that was read has one wherever its call asks for one. It and the
+    // three below have a `match` each: one generic would be given the same as a closure, and more.
     pub fn number(&self, k: usize) -> u64
         ensures { result ≡ number_at self.now.values.items k }
     {

@@ -51,10 +51,10 @@ fn sum_over(x: u64, y: u64, d: u64) -> Divided
     }
 }
 
-// What h, x and d keep stands in three contracts, as document 01's lines on the long division say it of each digit.
 // One digit of long division in base 2^32: h * 2^32 + x over d, for a divisor of one digit. The long division stays as well,
 // since document 01's list for the port has '`u128` becomes two words'. It is not one function with `digit_long`: for such
-// a divisor e there is 1, so that s may be d twice or more.
+// a divisor e there is 1, so that s may be d twice or more. The bounds of h, x and d stand in three contracts: a struct of the
+// three would be made for each digit and taken apart in the next function.
 fn digit_short(h: u64, x: u64, d: u64) -> Divided
     requires { (h < d) × (x < 2 ^ 32) × (d < 2 ^ 32) }
     ensures { Division (h * 2 ^ 32 + x) d result.quotient result.remainder }
