@@ -27,7 +27,7 @@
 #include <stddef.h>
 #include <stdint.h>
 
-#define POOL_MIRROR_VERSION "1.2.4"
+#define POOL_MIRROR_VERSION "1.2.5"
 
 #ifdef __cplusplus
 extern "C" {

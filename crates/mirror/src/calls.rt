@@ -12,7 +12,6 @@ use journal::calls::Call;
 use journal::fields::Fields;
 use journal::output::Pen;
 use pool::advance::Advanced;
-use std::fmt::Write;
 use std::process::Process;
 use std::rt::Files;
 use types::refusals::Refusal;
@@ -52,8 +51,11 @@ fn nonzero(image: &[u64], pen: &mut Pen) {
     let mut place = next_nonzero(image, 0);
     // A `while` over `next_nonzero`: that each word passed over is 0 is what its contract promises, and a `for` over a filter would not call it.
     while place < image.len() {
-        // A pen takes all text.
-        let _ = write!(pen, " {place}:{}", image[place]);
+        // By `number`: with `write!`, tried, mixed calls take 1.06 of their time.
+        pen.byte(b' ');
+        pen.number(place as u64);
+        pen.byte(b':');
+        pen.number(image[place]);
         place = next_nonzero(image, place + 1);
     }
     pen.byte(b'\n');
