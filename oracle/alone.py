@@ -104,6 +104,34 @@ INPUTS = [
     ("a key of 65 digits", [f"create-slash-event 1 {ZEROS}0 0".encode()], told(f"create-slash-event PUBLISHER: {KEY}")),
 ]
 
+# In place of the command `build`: what rt says of the crates in $CRATES, the first of which takes a second.
+BUILD = b"""#!/bin/sh
+for crate in $CRATES; do
+    echo "rt: chose --jobs 4 for $crate"
+    [ "$crate" != types ] || sleep 1.1
+    echo "fn $crate::f: proved"
+    echo "logic=proved functions=1"
+done
+[ "$FAILS" = 0 ] || { echo "not proved"; exit 1; }
+cp "$M" "${0%build}target/bin/mirror"
+"""
+BEGUN = "mirror: proving and building the program; the first time takes some minutes"
+LOG = ["rt: chose --jobs 4 for types", "fn types::f: proved", "logic=proved functions=1", "not proved"]
+UNBUILT = "mirror: the program could not be built"
+
+
+def proved(crate, k, seconds="[01]"):
+    """The line on a crate, of three."""
+    return rf"mirror: {crate} proved, {k} of 3 \({seconds} s\), [1-9] s in all"
+
+
+def read_at_hand(end):
+    """What came by a terminal."""
+    try:
+        return os.read(end, 10_000).decode()
+    except BlockingIOError:
+        return ""
+
 
 class Alone(Files):
     # Inputs and descriptors.
@@ -199,6 +227,49 @@ class Alone(Files):
         got = self.shell("beside/mirror hidden", [], nobody=True)
         yield self.verdict("./mirror, a journal that may not be read", got, "", [2], None, None if "hidden" in got[2] else f"told {got[2][:200]!r}")
         yield from self.script_at_terminal()
+        yield from self.builds()
+
+    # The build, of which the script tells how far it is.
+
+    def builds(self):
+        """Crate by crate on a terminal, and elsewhere only that a first build takes a while. The program is made of three of the crates that are listed."""
+        self.put("beside/crates.txt", b"# the crates\ntext: types\ntypes:\nother: types\nmirror: text types kits\n")
+        self.put("beside/build", BUILD)
+        os.chmod(self.path("beside/build"), 0o777)
+        first, last = proved("types", 1, "[1-9]"), proved("mirror", 3)
+        for says, crates, lines in (
+                ("all proved", "types text mirror", [first, proved("text", 2), last]), ("some proved before", "types mirror", [first, proved("mirror", 2), "mirror: 1 of 3 as they were proved before"]),
+                ("all proved before", "", [])):
+            yield self.unbuilt(says, crates, [BEGUN, *lines])
+        yield self.unbuilt("one that fails", "types", [BEGUN, first, *LOG, UNBUILT], fails=True)
+        for says, crates, lines, fails in (("all proved", "types text mirror", [], False), ("one that fails", "types", [*LOG, UNBUILT], True)):
+            yield self.unbuilt(says, crates, lines, False, fails)
+        os.remove(self.path("beside/target/bin/mirror"))
+        for name in ("src", "out"):
+            os.makedirs(self.path(f"beside/crates/text/{name}"))
+        yield self.unbuilt("the first one", "types text mirror", [BEGUN], False)
+        for says, name, lines in (("a file of what rt keeps is newer", "beside/crates/text/out/kept", []), ("a source is newer", "beside/crates/text/src/lib.rt", [BEGUN]), ("nothing is newer", None, []),
+                                  ("the list of crates is newer", "beside/crates.txt", [BEGUN])):
+            time.sleep(.01)
+            if name:
+                self.put(name, b"mirror:\n")
+            yield self.built(says, "", lines)
+
+    def unbuilt(self, *of, **more):
+        """The same where nothing says that the program is built."""
+        if os.path.exists(self.path("beside/target/mirror.stamp")):
+            os.remove(self.path("beside/target/mirror.stamp"))
+        return self.built(*of, **more)
+
+    def built(self, says, crates, lines, terminal=True, fails=False):
+        """A journal that is answered behind a build that proves these crates, and the lines on standard error."""
+        master, end = self.terminal()
+        got = self.shell("beside/mirror -", env={"CRATES": crates, "FAILS": "1" if fails else "0"}, **({"stderr": end} if terminal else {}))
+        told_lines = read_at_hand(master) if terminal else got[2]
+        os.close(end)
+        os.close(master)
+        wrong = None if re.fullmatch("".join(line + "\n" for line in lines), told_lines) else f"told {told_lines[-300:]!r}"
+        return self.verdict(f"./mirror, a build{'' if terminal else ', not on a terminal'}: {says}", got, "" if fails else "ok 29\n", [2 if fails else 0], None, wrong)
 
 
 def tried(work):

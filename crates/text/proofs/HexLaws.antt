@@ -1,6 +1,7 @@
 -- Laws of hexadecimal digits and the bytes that they spell. Assumes nothing.
 use Rattle.std.proofs.Common.{◌≡◌, ℕ, ◌+◌, ◌*◌, ◌/◌, ◌<◌, ◌≤◌, List, [], ◌∷◌, zero, suc, Bool, true, false, refl, min, leb}
-use Rattle.std.proofs.Common.{leb-true, leb-false, eq-eqb, length, length-take, take, drop, get_or, arith, sym, ap, ap₂, add-one, set, Option, ◌∙◌, Some, is_some}
+use Rattle.std.proofs.Common.{leb-true, leb-false, eq-eqb, length, length-take, take, drop, get_or, set, Option, Some, is_some}
+use Rattle.std.proofs.Common.{arith, sym, ap, ap₂, add-one, ◌∙◌}
 use Rattle.types.proofs.ListLaws.{chunk_at}
 use Rattle.std.specs.Simd.{first_chunks}
 use Rattle.std.proofs.lemmas.List.{take_all, get_or-take, get_or-drop}
