@@ -27,7 +27,7 @@
 #include <stddef.h>
 #include <stdint.h>
 
-#define POOL_MIRROR_VERSION "1.2.5"
+#define POOL_MIRROR_VERSION "1.3.0"
 
 #ifdef __cplusplus
 extern "C" {

@@ -1,19 +1,18 @@
 -- Laws of what the walks gather: what the loop over the positions keeps, and one law for each way on and each way out. Assumes nothing.
-use mathlib.Core.Path.{◌≡◌, refl, sym, ap, ◌∙◌}
+use mathlib.Core.Path.{◌≡◌, refl, sym, ◌∙◌}
 use mathlib.Core.Logic.{◌⊎◌, inl, inr}
 use mathlib.Core.Bool.{Bool, true, false, not, ◌||◌}
 use mathlib.Core.List.{List}
 use Prim.Native.Nat.{ℕ, zero, suc, ◌+◌, ◌*◌, ◌/◌, ◌<◌, ◌≤◌}
-use native.Mathlib.Nat.{add-mul, add-zero, mul-le-mul, one-mul, zero-mul}
-use native.Mathlib.Numerals.{add-one}
+use native.Mathlib.Nat.{add-zero, mul-le-mul}
 use native.Mathlib.Omega.{arith}
 use lib.Dec.{ltb}
 use lib.ListN.{length, get_or, replicate}
 use borrow.Author.Tests.{lt-ltb, le-ltb, ltb-true}
 use Rattle.std.specs.Prelude.{if◌then◌else◌, Some, None}
-use Rattle.types.specs.Base.{word, sum_below, all_below, count_below}
-use Rattle.types.proofs.Below.{and_left, and_both, sum_none, sum_more, sum_grows, all_none, all_more}
-use Rattle.types.proofs.Below.{all_each, all_not, all_at, count_none, count_more, count_le}
+use Rattle.types.specs.Base.{word, sum_below, all_below, count_below, to_nat}
+use Rattle.types.proofs.Below.{and_left, and_both, sum_none, sum_more, sum_grows, sum_counted, all_none, all_more}
+use Rattle.types.proofs.Below.{all_each, all_not, all_at, count_le}
 use Rattle.positions.specs.declared.Key.{Key}
 use Rattle.positions.specs.declared.position.Position.{Position}
 use Rattle.positions.specs.Positions.{position_from, in_publisher}
@@ -36,6 +35,17 @@ zeros_at zero k = refl
 zeros_at (suc n) zero = refl
 zeros_at (suc n) (suc k) = zeros_at n k
 
+-- the first i positions' walks read at most `most` events for each with the publisher
+pub reads_counted : (E : ℕ) (w : Words) (words : List ℕ) (publisher : Key) (from i most : ℕ) → walk_reads E w from ≤ most
+    → sum_below i (λ i. if in_publisher words (i * 9) publisher then walk_reads E w from else 0)
+    ≤ count_below i (λ i. in_publisher words (i * 9) publisher) * most
+reads_counted E w words publisher from i most l =
+    sum_counted _ (λ i. in_publisher words (i * 9) publisher) most i (λ i. one (in_publisher words (i * 9) publisher))
+  where
+    one : (t : Bool) → (if t then walk_reads E w from else 0) ≤ to_nat t * most
+    one true = omega arith
+    one false = omega arith
+
 -- a position that is not with the publisher adds nothing
 pub drawn_none : (E : ℕ) (w : Words) (words : List ℕ) (publisher : Key) (unlocking k i : ℕ) → in_publisher words (i * 9) publisher ≡ false
     → drawn_at E w words publisher unlocking k i ≡ 0
@@ -51,6 +61,10 @@ module _ (E : ℕ) (w : Words) (words : List ℕ) (publisher : Key) (from unlock
   abbrev fits_at : ℕ → Bool
   fits_at i = not (in_publisher words (i * 9) publisher) || walk_fits E w (position_from words (i * 9)) from unlocking
 
+  -- how many events its walk reads
+  abbrev read_by : ℕ → ℕ
+  read_by i = if in_publisher words (i * 9) publisher then walk_reads E w from else 0
+
   -- a slot's amount is a word
   abbrev slot_fits : ℕ → Bool
   slot_fits k = ltb (slot_amount E w words publisher from unlocking k) word
@@ -63,7 +77,7 @@ module _ (E : ℕ) (w : Words) (words : List ℕ) (publisher : Key) (from unlock
   pub record Gathering (i : ℕ) (g : EventAmounts) : Type 0 where
     pub amounts : (k : ℕ) → get_or g.amounts k 0 ≡ so_far i k
     pub small : (k : ℕ) → get_or g.amounts k 0 < word
-    pub reads : g.reads ≡ count_below i here * walk_reads E w from
+    pub reads : g.reads ≡ sum_below i read_by
     pub fitting : all_below i fits_at ≡ true
 
   -- ---- the start
@@ -72,7 +86,7 @@ module _ (E : ℕ) (w : Words) (words : List ℕ) (publisher : Key) (from unlock
   gather_start = record {
     amounts = λ k. zeros_at 52 k ∙ none k (ltb k (walk_meets E w from));
     small = λ k. omega (arith, zeros_at 52 k);
-    reads = sym (ap (λ (m : ℕ). m * walk_reads E w from) (count_none here) ∙ zero-mul (walk_reads E w from));
+    reads = sum_none read_by;
     fitting = all_none fits_at;
   }
     where
@@ -86,7 +100,7 @@ module _ (E : ℕ) (w : Words) (words : List ℕ) (publisher : Key) (from unlock
       let a : count_below i here ≤ 256 = omega (arith, count_le here i) in
       let b : walk_reads E w from ≤ 52 = omega (arith, newest.reads, newest.short) in
       let h : count_below i here * walk_reads E w from ≤ 256 * 52 = mul-le-mul a b in
-      omega (arith, s.reads, newest.short)
+      omega (arith, s.reads, newest.short, reads_counted E w words publisher from i (walk_reads E w from) (omega arith))
 
   -- ---- where something does not fit
 
@@ -113,7 +127,7 @@ module _ (E : ℕ) (w : Words) (words : List ℕ) (publisher : Key) (from unlock
     gather_other e = record {
       amounts = λ k. s.amounts k ∙ same k (ltb k (walk_meets E w from));
       small = s.small;
-      reads = rw (s.reads, add-one i, count_more here i, here_is false e, add-zero);
+      reads = rw (s.reads, sum_more read_by i, here_is false e, add-zero);
       fitting = all_more fits_at i s.fitting (rw (here_is false e));
     }
       where
@@ -151,16 +165,7 @@ module _ (E : ℕ) (w : Words) (words : List ℕ) (publisher : Key) (from unlock
         gather_walked r walked = record {
           amounts = λ k. walked.amounts k ∙ amount k (lt_or_le k (length (epochs_of n)));
           small = λ k. little k (lt_or_le k (length (epochs_of n)));
-          reads = rw (
-            walked.reads,
-            s.reads,
-            newest.reads,
-            add-one i,
-            count_more here i,
-            here_is true matches,
-            add-mul (count_below i here) 1 (walk_reads E w from),
-            one-mul (walk_reads E w from),
-          );
+          reads = rw (walked.reads, s.reads, newest.reads, sum_more read_by i, here_is true matches);
           fitting = all_more fits_at i s.fitting (rw (here_is true matches, ← is) (walk_fits_law E w from n newest p unlocking span known));
         }
           where

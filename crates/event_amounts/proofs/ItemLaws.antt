@@ -1,8 +1,9 @@
 -- What the loop over a list of anything that is a position keeps, and one law for each way on and each way out. Assumes nothing.
 use mathlib.Core.Path.{◌≡◌, sym, ap, ◌∙◌}
+use mathlib.Core.Logic.{◌⊎◌, inl, inr}
 use mathlib.Core.Bool.{true, false}
 use mathlib.Core.List.{List}
-use Prim.Native.Nat.{ℕ, ◌+◌, ◌-◌, ◌*◌, ◌<◌, ◌≤◌, min}
+use Prim.Native.Nat.{ℕ, ◌+◌, ◌-◌, ◌*◌, ◌<◌, ◌≤◌}
 use native.Mathlib.Omega.{arith}
 use lib.ListN.{length, get_or}
 use Rattle.std.specs.Prelude.{map, Some, None}
@@ -17,7 +18,7 @@ use Rattle.event_walk.specs.declared.span.Span.{Span}
 use Rattle.event_walk.specs.Walk.{gather_fits}
 use Rattle.event_walk.specs.Span.{SpanOf}
 use Rattle.event_walk.specs.Walked.{epochs_of, NewestOf, no_amounts, Walked, sums_fit}
-use Rattle.event_walk.proofs.AmountLaws.{added_most}
+use Rattle.event_walk.proofs.AmountLaws.{added_most, room_for_all}
 use Rattle.event_amounts.specs.Records.{records_words, record_in}
 use Rattle.event_amounts.specs.Gathered.{Gathers}
 use Rattle.event_amounts.proofs.RecordLaws.{items_count, item_position}
@@ -27,13 +28,13 @@ module _ {T : Type 0} (as_position : T → Position) (xs : List T) (E : ℕ) (w 
   abbrev words : List ℕ
   words = records_words (map as_position xs)
 
-  -- the walks in front of position i are done; as long as the sum of what they draw is not at the largest word, no amount is past it
+  -- the walks in front of position i are done, and no amount is past what they draw in all, or past the largest word
   pub record Kept (i drawn : ℕ) (g : EventAmounts) : Type 0 where
     pub gathering : Gathering E w words publisher from unlocking i g
-    pub most : drawn + 1 < word → (k : ℕ) → get_or g.amounts k 0 ≤ drawn
+    pub most : (k : ℕ) → get_or g.amounts k 0 ≤ drawn
 
   pub kept_start : (g : EventAmounts) → g ≡ no_amounts → Kept 0 0 g
-  kept_start g e = rw e (record { gathering = gather_start E w words publisher from unlocking; most = λ h k. omega (arith, zeros_at 52 k) })
+  kept_start g e = rw e (record { gathering = gather_start E w words publisher from unlocking; most = λ k. omega (arith, zeros_at 52 k) })
 
 module _ {T : Type 0} {as_position : T → Position} {xs : List T} {E : ℕ} {w : Words} {publisher : Key} {from unlocking i drawn : ℕ} {g : EventAmounts}
     (kept : Kept as_position xs E w publisher from unlocking i drawn g)
@@ -68,15 +69,22 @@ module _ {T : Type 0} {as_position : T → Position} {xs : List T} {E : ℕ} {w 
             (omega (arith, items_count as_position xs)) (ap (λ (q : Position). record_in q publisher) same ∙ sym matches) known
 
         module _ (s : Span) (known : SpanOf (epochs_of n) p unlocking (Some s)) where
-          pub kept_walked : (more : ℕ) (r : EventAmounts) → more ≡ min (drawn + s.amount) (word - 1) → Walked n s g r → Kept as_position xs E w publisher from unlocking (i + 1) more r
-          kept_walked more r sum walked = record {
-            gathering =
-                gather_walked E w here publisher from unlocking i g kept.gathering p (same ∙ stands) n newest
-                (omega (arith, items_count as_position xs)) (ap (λ (q : Position). record_in q publisher) same ∙ sym matches) s known r walked;
-            most = λ h k.
-                let e : more ≡ drawn + s.amount = omega arith in
-                omega (arith, added_most (epochs_of n) s g.amounts r.amounts walked.amounts k, kept.most (omega arith) k);
-          }
+          -- what is drawn in all is a word, so it has room
+          pub kept_room : (more : ℕ) → more ≡ drawn + s.amount → more < word → sums_fit (epochs_of n) s g.amounts ≡ true
+          kept_room more sum small = room_for_all (epochs_of n) s g.amounts (λ k. omega (arith, kept.most k))
+
+          pub kept_walked : (more : ℕ) (r : EventAmounts) → ((more ≡ drawn + s.amount) ⊎ (more ≡ word - 1)) → Walked n s g r
+              → Kept as_position xs E w publisher from unlocking (i + 1) more r
+          kept_walked more r sum walked = record { gathering = gathering; most = λ k. most k sum }
+            where
+              gathering : Gathering E w here publisher from unlocking (i + 1) r
+              gathering =
+                  gather_walked E w here publisher from unlocking i g kept.gathering p (same ∙ stands) n newest
+                  (omega (arith, items_count as_position xs)) (ap (λ (q : Position). record_in q publisher) same ∙ sym matches) s known r walked
+
+              most : (k : ℕ) → (more ≡ drawn + s.amount) ⊎ (more ≡ word - 1) → get_or r.amounts k 0 ≤ more
+              most k (inl e) = omega (arith, added_most (epochs_of n) s g.amounts r.amounts walked.amounts k, kept.most k)
+              most k (inr e) = omega (arith, gathering.small k)
 
           pub kept_past : sums_fit (epochs_of n) s g.amounts ≡ false → gather_fits E w here publisher from unlocking ≡ false
           kept_past e =

@@ -9,8 +9,8 @@ use lib.ListN.{length, get_or}
 use Rattle.std.specs.Prelude.{map, Option, Some, None, if◌then◌else◌}
 use Rattle.std.specs.Simd.{first_chunks}
 use Rattle.std.proofs.lemmas.List.{get_or_default}
-use Rattle.types.specs.Base.{word, sum_below, count_below}
-use Rattle.types.proofs.Below.{sum_same, all_same, count_same}
+use Rattle.types.specs.Base.{word, sum_below}
+use Rattle.types.proofs.Below.{sum_same, all_same}
 use Rattle.positions.specs.declared.Key.{Key}
 use Rattle.positions.specs.Positions.{position_from, in_publisher}
 use Rattle.positions.proofs.NinesLaws.{nines_length, nine_position}
@@ -51,12 +51,13 @@ module _ (E : ℕ) (w : Words) (a b : List ℕ) (publisher : Key) (from unlockin
         all_same _ (λ k. ltb (slot_amount E w b publisher from unlocking k) word) (walk_length E w) (λ k l. ap (λ (x : ℕ). ltb x word) (amount_same k)),
       )
 
+  abbrev read_in : List ℕ → ℕ → ℕ
+  read_in words i = if in_publisher words (i * 9) publisher then walk_reads E w from else 0
+
   reads_same : reads_of E w a publisher from ≡ reads_of E w b publisher from
   unfolding reads_of
   reads_same =
-      ap (λ (n : ℕ). n * walk_reads E w from)
-      (count_same (λ i. in_publisher a (i * 9) publisher) (λ i. in_publisher b (i * 9) publisher) (length a / 9) in_same
-      ∙ ap (λ (n : ℕ). count_below n (λ i. in_publisher b (i * 9) publisher)) count)
+      sum_same (read_in a) (read_in b) (length a / 9) (λ i l. rw (in_same i l)) ∙ ap (λ (n : ℕ). sum_below n (read_in b)) count
 
   pub gathered_same : (r : Option EventAmounts) → GatheredOf E w a publisher from unlocking r → GatheredOf E w b publisher from unlocking r
   gathered_same (Some r) g = record {

@@ -1,23 +1,41 @@
--- Item 8's bounds of the read count, and what an answer's amounts are, for every E, image and list of positions. Assumes nothing.
-use mathlib.Core.Path.{◌≡◌, refl}
+-- [9], 'reads counted to the last one', item 8's bounds, which follow, and what an answer's amounts are, for every E, image and list of positions.
+-- Assumes nothing.
+use mathlib.Core.Path.{◌≡◌, refl, sym, ◌∙◌}
 use mathlib.Core.Bool.{Bool, true, false}
 use mathlib.Core.List.{List}
 use Prim.Native.Nat.{ℕ, ◌*◌, ◌/◌, ◌<◌, ◌≤◌}
-use native.Mathlib.Nat.{mul-le-mul_left, le_trans, le-min}
+use native.Mathlib.Nat.{le_trans}
 use native.Mathlib.Omega.{arith}
 use lib.Dec.{ltb}
 use lib.ListN.{length, get_or}
 use borrow.Author.Tests.{lt-ltb}
-use Rattle.types.specs.Base.{word, sum_below, count_below, to_nat}
-use Rattle.types.proofs.Below.{sum_counted, count_none, count_le, count_skips}
+use Rattle.types.specs.Base.{word, sum_below, count_below}
+use Rattle.std.specs.Prelude.{if◌then◌else◌}
+use Rattle.types.proofs.Below.{sum_none, sum_skips, sum_le, count_none, count_le, count_skips}
 use Rattle.positions.specs.declared.Key.{Key}
 use Rattle.positions.specs.Positions.{in_publisher}
-use Rattle.image.specs.Layout.{Words}
+use Rattle.image.specs.Layout.{num_events, head, Words}
 use Rattle.event_walk.specs.declared.EventAmounts.{EventAmounts}
 use Rattle.event_walk.specs.Walk.{walk_meets, walk_reads, drawn_at, slot_amount, reads_of}
-use Rattle.event_walk.proofs.WalkLaws.{length_le, meets_le, reads_le}
+use Rattle.event_walk.proofs.WalkLaws.{length_le, length_count, reads_le, meets_read}
 use Rattle.event_amounts.specs.Gathered.{Gathers}
-use Rattle.event_amounts.proofs.GatherLaws.{drawn_none, slot_fits_law}
+use Rattle.event_amounts.proofs.GatherLaws.{drawn_none, reads_counted, slot_fits_law}
+
+-- [9] 'With no matching position .. it is 0'
+pub reads_no_match : (E : ℕ) (w : Words) (words : List ℕ) (publisher : Key) (from : ℕ)
+    → ((i : ℕ) → i < length words / 9 → in_publisher words (i * 9) publisher ≡ false) → reads_of E w words publisher from ≡ 0
+unfolding reads_of
+reads_no_match E w words publisher from none = sum_skips _ 0 (length words / 9) (omega arith) (λ i _ l. rw (none i l)) ∙ sym (sum_none _)
+
+-- [9] 'or with n of 0, it is 0'
+pub reads_no_event : (E : ℕ) (w : Words) (words : List ℕ) (publisher : Key) (from : ℕ) → w (head num_events) ≡ 0 → reads_of E w words publisher from ≡ 0
+unfolding reads_of
+reads_no_event E w words publisher from none =
+    sum_skips _ 0 (length words / 9) (omega arith) (λ i _ _. each (in_publisher words (i * 9) publisher)) ∙ sym (sum_none _)
+  where
+    each : (t : Bool) → (if t then walk_reads E w from else 0) ≡ 0
+    each true = omega (arith, reads_le E w from, length_count E w)
+    each false = refl
 
 module _ (E : ℕ) (w : Words) (words : List ℕ) (publisher : Key) (from : ℕ) where
   abbrev here : ℕ → Bool
@@ -26,12 +44,7 @@ module _ (E : ℕ) (w : Words) (words : List ℕ) (publisher : Key) (from : ℕ)
   -- 'at most E for each matching position'
   pub reads_most : reads_of E w words publisher from ≤ count_below (length words / 9) (λ i. in_publisher words (i * 9) publisher) * E
   unfolding reads_of
-  reads_most = mul-le-mul_left (count_below (length words / 9) here) (le_trans (reads_le E w from) (length_le E w))
-
-  -- a walk reads the events that it meets
-  meets_read : walk_meets E w from ≤ walk_reads E w from
-  unfolding walk_reads
-  meets_read = le-min (omega arith) (meets_le E w from)
+  reads_most = reads_counted E w words publisher from (length words / 9) E (le_trans (reads_le E w from) (length_le E w))
 
   module _ (unlocking : ℕ) where
     -- how many events position i adds to
@@ -42,10 +55,10 @@ module _ (E : ℕ) (w : Words) (words : List ℕ) (publisher : Key) (from : ℕ)
     pub reads_least : sum_below (length words / 9) (λ i. count_below (walk_meets E w from) (λ k. ltb 0 (drawn_at E w words publisher unlocking k i)))
         ≤ reads_of E w words publisher from
     unfolding reads_of
-    reads_least = sum_counted adds_to here (walk_reads E w from) (length words / 9) (λ i. one i (here i) refl)
+    reads_least = sum_le adds_to _ (length words / 9) (λ i l. one i (here i) refl)
       where
-        one : (i : ℕ) (t : Bool) → here i ≡ t → adds_to i ≤ to_nat t * walk_reads E w from
-        one i true e = omega (arith, count_le (λ k. ltb 0 (drawn_at E w words publisher unlocking k i)) (walk_meets E w from), meets_read)
+        one : (i : ℕ) (t : Bool) → here i ≡ t → adds_to i ≤ (if t then walk_reads E w from else 0)
+        one i true e = omega (arith, count_le (λ k. ltb 0 (drawn_at E w words publisher unlocking k i)) (walk_meets E w from), meets_read E w from)
         one i false e =
             let f : ℕ → Bool = λ k. ltb 0 (drawn_at E w words publisher unlocking k i) in
             omega (

@@ -16,7 +16,7 @@ use positions::Key;
 pub mod as_position;
 
 // The walks of all positions with the publisher, in their order. The events are read once for all of them. No slot has more than
-// `drawn`, what the positions draw in all: as long as that stays below the largest word nothing is tested.
+// `drawn`, what the positions draw in all: as long as that is a word every walk has room.
 pub fn gather<T: AsPosition>(
     pool: PoolData<'_>,
     positions: &[T],
@@ -35,13 +35,18 @@ pub fn gather<T: AsPosition>(
             continue;
         }
         let span = span_of(&newest, position.position(), unlocking_duration)?;
-        drawn = drawn.saturating_add(span.amount);
-        let all_fit = drawn < u64::MAX;
-        if all_fit {
-            gathered.walk_fitting(&newest, span);
-        } else {
-            gathered = gathered.walk(&newest, span)?;
-        }
+        drawn = match drawn.checked_add(span.amount) {
+            Some(sum) => sum,
+            None => {
+                // A copy is handed to the call, so that the span stays in registers.
+                let asked = span;
+                if !gathered.has_room(&newest, asked) {
+                    return None;
+                }
+                u64::MAX
+            }
+        };
+        gathered.walk(&newest, span);
     }
     Some(gathered)
 }

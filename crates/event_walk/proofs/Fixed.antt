@@ -1,5 +1,5 @@
 -- What the contracts here fix: any two results of the same inputs are the same, or agree in all that may be read. Assumes nothing.
-use mathlib.Core.Path.{◌≡◌, refl, sym, ap, ◌∙◌}
+use mathlib.Core.Path.{◌≡◌, sym, ap, ◌∙◌}
 use mathlib.Core.Bool.{true, false, true≢false}
 use mathlib.Core.List.{List}
 use Prim.Native.Nat.{ℕ, ◌<◌}
@@ -16,7 +16,7 @@ use Rattle.event_walk.specs.declared.newest.Newest.{Newest}
 use Rattle.event_walk.specs.declared.span.Span.{Span}
 use Rattle.event_walk.specs.Walk.{drawn_in}
 use Rattle.event_walk.specs.Span.{units_in, SpanOf}
-use Rattle.event_walk.specs.Walked.{epochs_of, NewestOf, AddedOf, Walked, WalkedOf}
+use Rattle.event_walk.specs.Walked.{epochs_of, NewestOf, AddedOf, Walked}
 
 -- the epochs of the events met, and the read count
 pub newest_of_fixes : (E : ℕ) (w : Words) (from : ℕ) (a b : Newest) → NewestOf E w from a → NewestOf E w from b
@@ -54,7 +54,7 @@ pub added_of_fixes : (epochs : List ℕ) (s : Span) (start a b : List ℕ) → l
     → AddedOf epochs s start a → AddedOf epochs s start b → a ≡ b
 added_of_fixes epochs s start a b e x y = ext_get_or 0 a b e (λ k l. x k ∙ sym (y k))
 
--- and so are the amounts and the read count, where all fits
+-- and so are the amounts and the read count
 pub walked_fixes : (n : Newest) (s : Span) (start a b : EventAmounts) → length a.amounts ≡ length b.amounts → Walked n s start a → Walked n s start b → a ≡ b
 walked_fixes n s start a b e x y =
     let amounts = added_of_fixes (epochs_of n) s start.amounts a.amounts b.amounts e x.amounts y.amounts in
@@ -65,11 +65,3 @@ walked_fixes n s start a b e x y =
 abbrev pub Long : Option EventAmounts → Type 0
 Long (Some r) = length r.amounts ≡ 52
 Long None = Unit {0}
-
--- whether all fits and, where it does, all else
-pub walked_of_fixes : (n : Newest) (s : Span) (start : EventAmounts) (a b : Option EventAmounts) → Long a → Long b → WalkedOf n s start a → WalkedOf n s start b
-    → a ≡ b
-walked_of_fixes n s start (Some a) (Some b) l m x y = ap Some (walked_fixes n s start a b (l ∙ sym m) x y)
-walked_of_fixes n s start (Some a) None l m x y = absurd (true≢false (sym x.fits ∙ y))
-walked_of_fixes n s start None (Some b) l m x y = absurd (true≢false (sym y.fits ∙ x))
-walked_of_fixes n s start None None l m x y = refl

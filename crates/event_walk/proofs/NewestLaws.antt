@@ -11,9 +11,11 @@ use Rattle.std.proofs.lemmas.List.{get_or_push, get_or_append_left, length-appen
 use Rattle.types.specs.Base.{word}
 use Rattle.types.proofs.Below.{NoneBelow, none_more}
 use Rattle.image.specs.Layout.{Words}
+use Rattle.event_walk.specs.declared.EventAmounts.{EventAmounts}
 use Rattle.event_walk.specs.declared.newest.Newest.{Newest}
+use Rattle.event_walk.specs.declared.span.Span.{Span}
 use Rattle.event_walk.specs.Walk.{walk_length, walk_epoch, walk_meets, walk_reads}
-use Rattle.event_walk.specs.Walked.{epochs_of, NewestOf}
+use Rattle.event_walk.specs.Walked.{epochs_of, NewestOf, Walked}
 use Rattle.event_walk.proofs.WalkLaws.{length_le, meets_at, meets_all, reads_at, reads_all, reads_le}
 
 module _ (E : ℕ) (w : Words) (from : ℕ) where
@@ -65,3 +67,7 @@ module _ (E : ℕ) (w : Words) (from : ℕ) where
   -- there is none behind them
   pub newest_all : (r : Newest) (k : ℕ) → E ≤ 52 → EpochsTo (epochs_of r) k → r.reads ≡ k → k ≡ walk_length E w → NewestOf E w from r
   newest_all r k few t is l = let m = meets_all E w from k l t.young in newest_is r k few t (omega arith) m (is ∙ reads_all E w from k l m)
+
+  -- [9] a walk adds to the count the events that its definition visits
+  pub walk_counts : (n : Newest) → NewestOf E w from n → (s : Span) (start r : EventAmounts) → Walked n s start r → r.reads ≡ start.reads + walk_reads E w from
+  walk_counts n newest s start r walked = rw (← newest.reads) walked.reads

@@ -3,11 +3,11 @@
 use mathlib.Core.Path.{◌≡◌, refl, sym, ap, ◌∙◌}
 use mathlib.Core.Bool.{Bool, true, false}
 use mathlib.Core.List.{List}
-use Prim.Native.Nat.{ℕ, ◌+◌, ◌-◌, ◌<◌, ◌≤◌}
+use Prim.Native.Nat.{ℕ, ◌+◌, ◌-◌, ◌%◌, ◌<◌, ◌≤◌}
 use native.Mathlib.Omega.{arith}
 use lib.Dec.{ltb, leb}
 use lib.ListN.{length, get_or}
-use borrow.Author.Tests.{lt-ltb, le-ltb, leb-true, leb-false}
+use borrow.Author.Tests.{lt-ltb, le-ltb, ltb-true, ltb-false, leb-true, leb-false}
 use Rattle.std.specs.Prelude.{if◌then◌else◌, IsTrue, ◌↔◌, Any, Some, None}
 use Rattle.types.specs.Base.{word, Outcome, refused, accepted, map_outcome, is_accepted, or_zero, all_below, any_below}
 use Rattle.types.specs.Refusals.{does_not_fit}
@@ -48,6 +48,18 @@ module _ (s : Span) (epoch : ℕ) where
       go true b = omega arith
       go false true = omega arith
       go false false = omega arith
+
+  -- by one comparison of how far it is behind the first
+  module _ (order : s.first ≤ s.last) (behind : ℕ) where
+    pub units_inside : behind ≡ (epoch + word - s.first) % word → behind ≤ s.last - s.first → epoch < word → s.last < word → s.amount ≡ units_in s epoch
+    units_inside e h small last = units_within (omega arith) (omega arith)
+
+    pub units_outside : behind ≡ (epoch + word - s.first) % word → s.last - s.first < behind → epoch < word → s.last < word → 0 ≡ units_in s epoch
+    units_outside e h small last = go (ltb epoch s.first) refl
+      where
+        go : (t : Bool) → ltb epoch s.first ≡ t → 0 ≡ units_in s epoch
+        go true q = units_before (ltb-true _ _ q)
+        go false q = let l = ltb-false _ _ q in units_after l (omega arith)
 
 -- the default adds nothing
 abbrev pub no_span : Span
@@ -96,8 +108,8 @@ module _ (p : Position) (epoch unlocking : ℕ) where
       go (accepted UNLOCKING) t = absurd (n t.0.1.0)
       go (accepted UNLOCKED) t = absurd (n t.0.1.0)
 
-  -- a start at 0: never
-  drawn_never : p.start_flag ≡ 1 → p.unlocking_start.0 + unlocking < word → p.unlocking_start.0 ≡ 0
+  -- a start that is not behind the activation: never
+  drawn_never : p.start_flag ≡ 1 → p.unlocking_start.0 + unlocking < word → p.unlocking_start.0 ≤ p.activation_epoch.0
       → drawn_in p epoch unlocking ≡ accepted (units_in no_span epoch)
   unfolding drawn_in
   drawn_never g f z = go (state_of p epoch unlocking) told_of
@@ -111,7 +123,7 @@ module _ (p : Position) (epoch unlocking : ℕ) where
       go (accepted UNLOCKED) t = ap accepted (units_none epoch)
 
   -- a later start: from the activation to the epoch in front of it
-  drawn_closed : p.start_flag ≡ 1 → p.unlocking_start.0 + unlocking < word → (p.unlocking_start.0 ≡ 0 → ⊥)
+  drawn_closed : p.start_flag ≡ 1 → p.unlocking_start.0 + unlocking < word → p.activation_epoch.0 < p.unlocking_start.0
       → drawn_in p epoch unlocking ≡ accepted (units_in (from_to p (p.unlocking_start.0 - 1)) epoch)
   unfolding drawn_in
   drawn_closed g f n = go (state_of p epoch unlocking) told_of
@@ -131,10 +143,11 @@ module _ (epochs : List ℕ) (p : Position) (unlocking : ℕ) where
   pub span_open : (p.start_flag ≡ 1 → ⊥) → SpanOf epochs p unlocking (Some (from_to p (word - 1)))
   span_open n k l small = drawn_open p (get_or epochs k 0) unlocking small n
 
-  pub span_never : p.start_flag ≡ 1 → p.unlocking_start.0 + unlocking < word → p.unlocking_start.0 ≡ 0 → SpanOf epochs p unlocking (Some no_span)
+  pub span_never : p.start_flag ≡ 1 → p.unlocking_start.0 + unlocking < word → p.unlocking_start.0 ≤ p.activation_epoch.0
+      → SpanOf epochs p unlocking (Some no_span)
   span_never g f z k l small = drawn_never p (get_or epochs k 0) unlocking g f z
 
-  pub span_closed : p.start_flag ≡ 1 → p.unlocking_start.0 + unlocking < word → (p.unlocking_start.0 ≡ 0 → ⊥)
+  pub span_closed : p.start_flag ≡ 1 → p.unlocking_start.0 + unlocking < word → p.activation_epoch.0 < p.unlocking_start.0
       → SpanOf epochs p unlocking (Some (from_to p (p.unlocking_start.0 - 1)))
   span_closed g f n k l small = drawn_closed p (get_or epochs k 0) unlocking g f n
 
@@ -158,6 +171,9 @@ module _ (epochs : List ℕ) (p : Position) (unlocking : ℕ) where
         let found = any_found activated (length epochs) (sym any_is ∙ e) in
         all_not (λ k. is_accepted (drawn_in p (get_or epochs k 0) unlocking)) (length epochs) found.0 found.1
         (ap is_accepted (drawn_refused p (get_or epochs found.0 0) unlocking (leb-true _ _ found.2) g f))
+
+-- the two ways out of units_in
+pub ruleset units = (units_inside, units_outside)
 
 -- the ways out
 pub ruleset spans = (span_open, span_never, span_closed, span_early, span_refused)

@@ -1,14 +1,18 @@
 -- The events that a walk comes to: how many, in which ring slots, and which are not too old; one law for each way out of the code. Assumes nothing.
 use mathlib.Core.Path.{◌≡◌, sym, ap, ◌∙◌}
-use Prim.Native.Nat.{ℕ, suc, ◌+◌, ◌-◌, ◌%◌, ◌≤◌, ◌<◌}
-use native.Mathlib.Nat.{mod-lt, mod_self, mod-eq_of_lt, suc-mod, sub-zero, min-le_left, min-le_right, min-eq_left, min-eq_right}
+use mathlib.Core.Logic.{◌⊎◌, inl, inr}
+use mathlib.Core.Bool.{true, false, not}
+use Prim.Native.Nat.{ℕ, suc, ◌+◌, ◌-◌, ◌%◌, ◌≤◌, ◌<◌, min}
+use native.Mathlib.Nat.{mod-lt, mod_self, mod-eq_of_lt, suc-mod, sub-zero, min-le_left, min-le_right, min-eq_left, min-eq_right, le-min}
 use native.Mathlib.Decide.{ℕ_discrete}
 use native.Mathlib.Omega.{arith}
 use lib.Dec.{ltb}
 use borrow.Author.Tests.{eq-eqb, ne_eqb, lt-ltb}
-use Rattle.types.proofs.Below.{NoneBelow, first_at, first_none, first_le}
+use Rattle.types.specs.Base.{count_below}
+use Rattle.types.proofs.Below.{all_each, all_not, count_le, count_each, count_skips, NoneBelow, first_at, first_none, first_le, first_before_law, first_found}
+use Rattle.image.proofs.ListLaws.{lt_or_le}
 use Rattle.image.specs.Layout.{num_events, event_epoch, head, slot, Words}
-use Rattle.event_walk.specs.Walk.{walk_length, walk_slot, walk_epoch, walk_meets, walk_reads}
+use Rattle.event_walk.specs.Walk.{walk_length, walk_slot, walk_epoch, walk_meets, is_read, walk_reads}
 use Rattle.event_walk.specs.Walked.{slot_before}
 
 -- ---- the slot in front
@@ -94,14 +98,43 @@ module _ (E : ℕ) (w : Words) where
     unfolding walk_meets
     meets_le = first_le (walk_length E w) (λ j. ltb (walk_epoch E w j) from)
 
-    pub reads_at : (k : ℕ) → k < walk_length E w → k ≡ walk_meets E w from → k + 1 ≡ walk_reads E w from
+    -- ---- how many are read
+
+    is_met : (k : ℕ) → k ≤ walk_meets E w from → is_read E w from k ≡ true
+    unfolding is_read walk_meets
+    is_met k l = all_each _ k (λ j h. ap not (first_before_law (walk_length E w) j (λ i. ltb (walk_epoch E w i) from) (omega arith)))
+
+    is_behind : (k : ℕ) → walk_meets E w from < walk_length E w → walk_meets E w from < k → is_read E w from k ≡ false
+    unfolding is_read walk_meets
+    is_behind k l h = all_not _ k (walk_meets E w from) h (ap not (first_found (walk_length E w) (λ i. ltb (walk_epoch E w i) from) l))
+
+    -- those that are met, and the one too old where there is one
+    pub reads_closed : walk_reads E w from ≡ min (suc (walk_meets E w from)) (walk_length E w)
     unfolding walk_reads
-    reads_at k l q = let b : suc (walk_meets E w from) ≤ walk_length E w = omega arith in rw (min-eq_left b) (omega arith)
+    reads_closed = go (lt_or_le (walk_meets E w from) (walk_length E w))
+      where
+        go : (walk_meets E w from < walk_length E w) ⊎ (walk_length E w ≤ walk_meets E w from)
+            → count_below (walk_length E w) (is_read E w from) ≡ min (suc (walk_meets E w from)) (walk_length E w)
+        go (inl h) =
+            let b : suc (walk_meets E w from) ≤ walk_length E w = omega arith in
+            rw (min-eq_left b)
+            (count_skips (is_read E w from) (suc (walk_meets E w from)) (walk_length E w) b (λ k l m. is_behind k h (omega arith))
+            ∙ count_each (is_read E w from) (suc (walk_meets E w from)) (λ k l. is_met k (omega arith)))
+        go (inr h) =
+            let b : walk_length E w ≤ suc (walk_meets E w from) = omega arith in
+            rw (min-eq_right b) (count_each (is_read E w from) (walk_length E w) (λ k l. is_met k (omega arith)))
+
+    pub reads_at : (k : ℕ) → k < walk_length E w → k ≡ walk_meets E w from → k + 1 ≡ walk_reads E w from
+    reads_at k l q = let b : suc (walk_meets E w from) ≤ walk_length E w = omega arith in rw (reads_closed, min-eq_left b) (omega arith)
 
     pub reads_all : (k : ℕ) → k ≡ walk_length E w → k ≡ walk_meets E w from → k ≡ walk_reads E w from
-    unfolding walk_reads
-    reads_all k l q = let b : walk_length E w ≤ suc (walk_meets E w from) = omega arith in rw (min-eq_right b) l
+    reads_all k l q = let b : walk_length E w ≤ suc (walk_meets E w from) = omega arith in rw (reads_closed, min-eq_right b) l
 
+    -- [9] 'at most the smaller of E and n'
     pub reads_le : walk_reads E w from ≤ walk_length E w
     unfolding walk_reads
-    reads_le = min-le_right (suc (walk_meets E w from)) (walk_length E w)
+    reads_le = count_le (is_read E w from) (walk_length E w)
+
+    -- those that are met among them
+    pub meets_read : walk_meets E w from ≤ walk_reads E w from
+    meets_read = rw reads_closed (le-min (omega arith) meets_le)

@@ -1,5 +1,5 @@
 -- Item 8 of document 01: the walk over the newest events, and what gathers in each ring slot, over the image's words by name. Assumes nothing.
-use Rattle.std.specs.Prelude.{Bool, not, ◌&&◌, ◌||◌, List, ℕ, suc, ◌-◌, ◌*◌, ◌/◌, ◌%◌, min, ltb, length, if◌then◌else◌}
+use Rattle.std.specs.Prelude.{Bool, not, ◌&&◌, ◌||◌, List, ℕ, ◌-◌, ◌*◌, ◌/◌, ◌%◌, min, ltb, length, if◌then◌else◌}
 use Rattle.types.specs.Base.{word, Outcome, map_outcome, is_accepted, or_zero, sum_below, all_below, count_below, first_below}
 use Rattle.positions.specs.declared.Key.{Key}
 use Rattle.positions.specs.declared.position.Position.{Position}
@@ -24,9 +24,13 @@ walk_epoch E w k = w (slot (walk_slot E w k) event_epoch)
 unfoldable pub walk_meets : (E : ℕ) → Words → (from : ℕ) → ℕ
 walk_meets E w from = first_below (walk_length E w) (λ k. ltb (walk_epoch E w k) from)
 
--- how many it reads, the one too old included
+-- [9] 'newest back, .. the one too old included': it reads the event behind k others where none of those is too old
+unfoldable pub is_read : (E : ℕ) → Words → (from k : ℕ) → Bool
+is_read E w from k = all_below k (λ j. not (ltb (walk_epoch E w j) from))
+
+-- [9] 'exactly the events read: .. at most the smaller of E and n'
 unfoldable pub walk_reads : (E : ℕ) → Words → (from : ℕ) → ℕ
-walk_reads E w from = min (suc (walk_meets E w from)) (walk_length E w)
+walk_reads E w from = count_below (walk_length E w) (is_read E w from)
 
 -- ---- one position
 
@@ -56,6 +60,6 @@ gather_fits E w words publisher from unlocking =
     all_below (length words / 9) (λ i. not (in_publisher words (i * 9) publisher) || walk_fits E w (position_from words (i * 9)) from unlocking)
     && all_below (walk_length E w) (λ k. ltb (slot_amount E w words publisher from unlocking k) word)
 
--- the read count: the events that the walks of these positions read
+-- [9] 'the read count of a payment .. shall be exactly the events read: for each matching position'
 unfoldable pub reads_of : (E : ℕ) → Words → List ℕ → Key → (from : ℕ) → ℕ
-reads_of E w words publisher from = count_below (length words / 9) (λ i. in_publisher words (i * 9) publisher) * walk_reads E w from
+reads_of E w words publisher from = sum_below (length words / 9) (λ i. if in_publisher words (i * 9) publisher then walk_reads E w from else 0)

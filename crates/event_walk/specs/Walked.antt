@@ -1,5 +1,5 @@
 -- What the walk's functions hand on: the newest events, and the amounts after one position's walk. Assumes nothing.
-use Rattle.std.specs.Prelude.{◌≡◌, Bool, true, false, List, ℕ, ◌+◌, ◌-◌, ◌<◌, ◌≤◌, eqb, ltb, length, get_or, replicate, if◌then◌else◌, Option, Some, None}
+use Rattle.std.specs.Prelude.{◌≡◌, Bool, true, List, ℕ, ◌+◌, ◌-◌, ◌<◌, ◌≤◌, eqb, ltb, length, get_or, replicate, if◌then◌else◌}
 use Rattle.types.specs.Base.{word, all_below}
 use Rattle.image.specs.Layout.{Words}
 use Rattle.event_walk.specs.declared.EventAmounts.{EventAmounts}
@@ -38,13 +38,8 @@ AddedOf epochs s start r =
 abbrev pub sums_fit : (epochs : List ℕ) → Span → (start : List ℕ) → Bool
 sums_fit epochs s start = all_below (length epochs) (λ k. ltb (get_or start k 0 + units_in s (get_or epochs k 0)) word)
 
--- what it makes of them and of the read count, where every sum is
+-- what it makes of them, where every sum is, and of the read count: the events that it reads come to those of the walks before it
 pub record Walked (n : Newest) (s : Span) (start r : EventAmounts) : Type 0 where
   pub fits : sums_fit (epochs_of n) s start.amounts ≡ true
   pub amounts : AddedOf (epochs_of n) s start.amounts r.amounts
   pub reads : r.reads ≡ start.reads + n.reads
-
--- the same, or that one is not
-abbrev pub WalkedOf : Newest → Span → (start : EventAmounts) → Option EventAmounts → Type 0
-WalkedOf n s start (Some r) = Walked n s start r
-WalkedOf n s start None = sums_fit (epochs_of n) s start.amounts ≡ false

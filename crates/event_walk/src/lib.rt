@@ -1,9 +1,9 @@
 // Item 8: the walk of one position over the newest events.
 #![tactic(auto)]
 
-ghost use Rattle.std.specs.Prelude.{◌≡◌, ℕ, ◌+◌, ◌≤◌, ◌<◌, get_or};
+ghost use Rattle.std.specs.Prelude.{◌≡◌, true, ◌+◌, ◌≤◌, ◌<◌};
 ghost use Rattle.types.specs.Base.{word};
-ghost use Rattle.event_walk.specs.Walked.{no_amounts, Walked, WalkedOf};
+ghost use Rattle.event_walk.specs.Walked.{no_amounts, epochs_of, sums_fit, Walked};
 
 use crate::newest::Newest;
 use crate::span::Span;
@@ -31,32 +31,36 @@ impl EventAmounts {
         }
     }
 
-    // One position's walk: its span is added in each event met, where every sum fits. By index, as below. Tried: over `iter_mut().zip(epochs)`
-    // the proof does not close, since an invariant has no name for the sums so far.
-    #[tactic(auto, using(crate::proofs::AmountLaws::sums))]
-    pub fn walk(mut self, newest: &Newest, span: Span) -> Option<EventAmounts>
-        requires { self.reads + newest.now.reads < word }
-        ensures { WalkedOf newest.now span self result }
+    // Whether each amount has room for what one position's walk adds to it. It is seldom asked, and stands apart from the loop over the positions.
+    #[inline(never)]
+    #[tactic(auto, using(crate::proofs::AmountLaws::rooms))]
+    pub fn has_room(&self, newest: &Newest, span: Span) -> bool
+        requires { span.first ≤ span.last }
+        ensures { result ≡ sums_fit (epochs_of newest.now) span self.now.amounts }
     {
         let epochs = newest.epochs.as_slice();
         for (k, epoch) in epochs.iter().enumerate() {
-            self.amounts[k] = self.amounts[k].checked_add(span.units_in(*epoch))?;
+            if self.amounts[k].checked_add(span.units_in(*epoch)).is_none() {
+                return false;
+            }
         }
-        self.reads += newest.reads;
-        Some(self)
+        true
     }
 
-    // The same where no amount can pass 64 bits. Nothing is tested, and the array is not copied. With `walk` for every position, tried, a payment
-    // of 256 takes twice the time over 5 events, 0.84 of the Rust's for 0.42, where no call may take more than 1.05 of what it took.
+    // One position's walk, whether it is words or a record: its span adds to the amount of each event met, and the events that it reads to the count.
+    // The array stays where it is: handed on by value from walk to walk, tried, it is copied twice for each walk, and eight walks in a row, with
+    // two copies for all of them, take up to 2.5 times as long (docs/SPEED.md). By index: over `iter_mut().zip(epochs)` an invariant has no
+    // name for the sums so far.
     #[tactic(auto, using(crate::proofs::AmountLaws::sums))]
-    pub fn walk_fitting(&mut self, newest: &Newest, span: Span)
-        requires room { (k : ℕ) → get_or self.old.amounts k 0 + span.amount < word }
+    pub fn walk(&mut self, newest: &Newest, span: Span)
+        requires order { span.first ≤ span.last }
+        requires room { sums_fit (epochs_of newest.now) span self.old.amounts ≡ true }
         requires reads { self.old.reads + newest.now.reads < word }
         ensures { Walked newest.now span self.old self.new }
     {
         let epochs = newest.epochs.as_slice();
-        for (j, epoch) in epochs.iter().enumerate() {
-            self.amounts[j] += span.units_in(*epoch);
+        for (k, epoch) in epochs.iter().enumerate() {
+            self.amounts[k] += span.units_in(*epoch);
         }
         self.reads += newest.reads;
     }

@@ -1,6 +1,6 @@
 // The epochs in which a position adds to events.
-ghost use Rattle.std.specs.Prelude.{◌≡◌};
-ghost use Rattle.event_walk.specs.Span.{units_in, SpanOf};
+ghost use Rattle.std.specs.Prelude.{◌≡◌, ◌≤◌};
+ghost use Rattle.event_walk.specs.Span.{units_in, SpanOf, InOrder};
 ghost use Rattle.event_walk.specs.Walked.{epochs_of};
 
 use crate::newest::Newest;
@@ -15,12 +15,13 @@ pub struct Span {
 }
 
 impl Span {
-    // What is added in an epoch.
-    #[tactic(auto, unfolding(crate::specs::Span::units_in))]
+    // What is added in an epoch, by one comparison of how far it is behind the first: one in front of that is, modulo 2^64, farther behind than the last.
+    #[tactic(auto, using(crate::proofs::SpanLaws::units))]
     pub fn units_in(self, epoch: u64) -> u64
+        requires { self.first ≤ self.last }
         ensures { result ≡ units_in self epoch }
     {
-        if self.first <= epoch && epoch <= self.last {
+        if epoch.wrapping_sub(self.first) <= self.last - self.first {
             self.amount
         } else {
             0
@@ -32,7 +33,8 @@ impl Span {
 // them: from the activation to the epoch in front of the start, if there is one.
 #[tactic(auto, using(crate::proofs::SpanLaws::spans))]
 pub fn span_of(newest: &Newest, position: Position, unlocking_duration: u64) -> Option<Span>
-    ensures { SpanOf (epochs_of newest.now) position unlocking_duration result }
+    ensures draws { SpanOf (epochs_of newest.now) position unlocking_duration result }
+    ensures order { InOrder result }
 {
     let amount = position.amount.0;
     let first = position.activation_epoch.0;
@@ -51,7 +53,7 @@ pub fn span_of(newest: &Newest, position: Position, unlocking_duration: u64) -> 
         }
         return Some(Span::default());
     }
-    if start == 0 {
+    if start <= first {
         return Some(Span::default());
     }
     Some(Span {

@@ -12,12 +12,15 @@ use Rattle.std.proofs.lemmas.Grind.{common_steps}
 use Rattle.types.specs.Base.{Outcome, refused, accepted, after}
 use Rattle.types.proofs.OutcomeLaws.{test_passed, then_accepts}
 use Rattle.positions.specs.declared.Key.{Key}
+use Rattle.positions.specs.Positions.{positions_hold}
 use Rattle.std.specs.Prelude.{Option, Some, None}
 use Rattle.image.specs.Layout.{last_updated_epoch, claimable_rewards, num_events, Field, head, seat, slot, share, Words, InRange, read, image}
 use Rattle.image.specs.Seats.{checked_image, stake_account_at, publisher_index_of}
 use Rattle.image.proofs.SeatLaws.{checked_says}
 use Rattle.image.proofs.LayoutLaws.{read_image, length_image}
+use Rattle.event_walk.specs.Walk.{reads_of}
 use Rattle.pool.specs.Reward.{Earned, calculate_reward}
+use Rattle.pool.proofs.PaidLaws.{earned_reads}
 use Rattle.integrity_pool.specs.declared.payment.Claim.{Claim}
 use Rattle.image.specs.Changes.{self_side}
 use Rattle.integrity_pool.specs.Payment.{custody_fall, Payment, payment_with, pay_out, payment_at, payment_of, paid_words, payment_call, payment_image}
@@ -73,6 +76,23 @@ pub payment_covered : (P E : ℕ) (w : Words) (words : List ℕ) (c : Claim) (a 
 payment_covered P E w words c a e =
     let t = payment_tells P E w words c a e in
     rw (sym t.answer) t.covered
+
+-- [9] 'exactly the events read: for each matching position ..', of every payment that is accepted
+pub payment_reads : (P E : ℕ) (w : Words) (words : List ℕ) (c : Claim) (a : Payment) → payment_of P E w words c ≡ accepted a
+    → a.reads ≡ reads_of E w words c.publisher c.delegation_record.last_epoch.0
+payment_reads P E w words c a e =
+    let t = payment_tells P E w words c a e in
+    rw (sym t.answer)
+    (earned_reads E w t.seat words c.publisher c.delegation_record.last_epoch.0 c.unlocking_duration (self_side w t.seat c.stake_account_positions)
+    t.earned t.earns)
+
+pub call_reads : (P E : ℕ) (img words : List ℕ) (c : Claim) (a : Payment) → payment_call P E img words c ≡ accepted a
+    → a.reads ≡ reads_of E (read P E img) words c.publisher c.delegation_record.last_epoch.0
+unfolding payment_call
+call_reads P E img words c a e =
+    let image = test_passed (not (checked_image P E img)) _ _ a e in
+    let positions = test_passed (not (positions_hold words)) _ _ a image.1 in
+    payment_reads P E (read P E img) words c a positions.1
 
 -- by how much custody falls: at most by both parts
 fall_le : (stake_account : Key) (account : Option Key) (custody delegator both fall : ℕ)

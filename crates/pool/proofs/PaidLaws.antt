@@ -75,6 +75,10 @@ module _ (E : ℕ) (w : Words) (s : ℕ) (words : List ℕ) (publisher : Key) (f
       let m = map_accepted (earned_with (reads_of E w words publisher from)) _ r t.1 in
       (m.0, (sum_adds _ _ m.0 m.1.0, m.1.1))
 
+  -- [9] the read count that is answered is that of the definition
+  pub earned_reads : r.reads ≡ reads_of E w words publisher from
+  earned_reads = ap (λ (x : Earned). x.reads) adds.1.1
+
   -- the parts together are the sum, over the slots of a walk, of the amount there at the event's rate for the side
   pub paid_adds : r.delegator + r.publisher ≡ sum_below (walk_length E w) (λ (k : ℕ). total_of (slot_amount E w words publisher from unlocking k)
       (rate_of (w (slot (walk_slot E w k) event_y)) (w (share (walk_slot E w k) s (reward_ratio (if self_side then self else other))))))

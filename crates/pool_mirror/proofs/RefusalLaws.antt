@@ -30,7 +30,7 @@ use Rattle.integrity_pool.specs.Payment.{custody_fall, pay_out, payment_at, paym
 use Rattle.integrity_pool.specs.Changes.{checked_image_then, add_call, remove_call, create_at, create_slash_event_call, slash_order, slash_change, slash_call, fee_call, first_account, later_account, may_change, new_account, stake_account_at_seat, stake_account_call}
 use Rattle.pool_mirror.proofs.InputLaws.{is_other}
 use Rattle.pool_mirror.specs.Inputs.{state_of}
-use Rattle.pool_mirror.specs.Answers.{number_of}
+use Rattle.pool_mirror.specs.Answers.{number_of, payment_answer}
 use Rattle.pool_mirror.specs.Refusals.{has, Among, fresh_refusals, advance_refusals, payment_refusals, add_refusals, remove_refusals, create_refusals, slash_refusals, fee_refusals, stake_account_refusals, position_state_refusals}
 
 -- ---- of the shapes that definitions are made of
@@ -311,3 +311,9 @@ module _ (P E : ℕ) (img : List ℕ) (d : Delegation) (amount : ℕ) where
       subst (λ s. is_accepted (remove_call P E img d amount s) ≡ false)
       (is_other n (λ e. omega (arith, up, e)) (λ e. omega (arith, up, e)) (λ e. omega (arith, up, e)) (λ e. omega (arith, up, e)))
       unlocking_refused
+
+-- ---- what a refused payment reports
+
+-- [9] 'A payment that is refused reports no count': no word of the answer is written
+pub refused_reports_no_count : (found : List ℕ) (n : ℕ) → payment_answer found (refused n) ≡ found
+refused_reports_no_count found n = refl

@@ -202,6 +202,11 @@ count_le f (suc n) = go (f n) (count_le f n)
     go true h = omega arith
     go false h = omega arith
 
+pub count_each : (f : ℕ → Bool) (n : ℕ) → ((i : ℕ) → i < n → f i ≡ true) → count_below n f ≡ n
+unfolding count_below
+count_each f zero h = refl
+count_each f (suc n) h = rw (count_each f n (λ i l. h i (omega arith)), h n (omega arith)) (omega arith)
+
 -- a count is a sum of ones
 count_sum : (f : ℕ → Bool) (n : ℕ) → count_below n f ≡ sum_below n (λ i. to_nat (f i))
 unfolding sum_below count_below
@@ -265,6 +270,16 @@ first_before_law (suc n) i f l = go i (f 0) refl l (λ j b. first_before_law n j
     go i true e l r = absurd (omega arith)
     go zero false e l r = e
     go (suc i) false e l r = r i (omega arith)
+
+pub first_found : (n : ℕ) (f : ℕ → Bool) → first_below n f < n → f (first_below n f) ≡ true
+unfolding first_below
+first_found zero f l = absurd (omega arith)
+first_found (suc n) f l = go (f 0) refl l (first_found n (λ i. f (suc i)))
+  where
+    go : (t : Bool) → f 0 ≡ t → one_more t (first_below n (λ i. f (suc i))) < suc n
+        → (first_below n (λ i. f (suc i)) < n → f (suc (first_below n (λ i. f (suc i)))) ≡ true) → f (one_more t (first_below n (λ i. f (suc i)))) ≡ true
+    go true e b h = e
+    go false e b h = h (omega arith)
 
 pub first_same : (n : ℕ) (f g : ℕ → Bool) → ((i : ℕ) → i < n → f i ≡ g i) → first_below n f ≡ first_below n g
 unfolding first_below
