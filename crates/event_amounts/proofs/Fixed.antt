@@ -3,13 +3,18 @@ use mathlib.Core.Path.{◌≡◌, refl, sym, ◌∙◌}
 use mathlib.Core.Bool.{true≢false}
 use mathlib.Core.List.{List}
 use Prim.Native.Nat.{ℕ}
+use lib.ListN.{length}
 use lib.Seq.{ext_get_or}
 use Rattle.std.specs.Prelude.{Option, Some, None}
 use Rattle.positions.specs.declared.Key.{Key}
 use Rattle.image.specs.Layout.{Words}
 use Rattle.event_walk.specs.declared.EventAmounts.{EventAmounts}
-use Rattle.event_walk.proofs.Fixed.{Long}
 use Rattle.event_amounts.specs.Gathered.{GatheredOf}
+
+-- an array's length is its type's
+abbrev pub Long : Option EventAmounts → Type 0
+Long (Some r) = length r.amounts ≡ 52
+Long None = Unit {0}
 
 -- whether all fits and, where it does, all else
 pub gathered_of_fixes : (E : ℕ) (w : Words) (words : List ℕ) (publisher : Key) (from unlocking : ℕ) (a b : Option EventAmounts) → Long a → Long b

@@ -21,7 +21,7 @@ use Rattle.image.proofs.ListLaws.{lt_or_le}
 use Rattle.event_walk.specs.declared.EventAmounts.{EventAmounts}
 use Rattle.event_walk.specs.declared.newest.Newest.{Newest}
 use Rattle.event_walk.specs.declared.span.Span.{Span}
-use Rattle.event_walk.specs.Walk.{walk_length, walk_meets, walk_reads, walk_fits, drawn_at, slot_amount, gather_fits, reads_of}
+use Rattle.event_walk.specs.Walk.{walk_length, walk_meets, walk_reads, walk_fits, drawn_at, slot_amount, gather_fits, read_by, reads_of}
 use Rattle.event_walk.specs.Span.{units_in, SpanOf}
 use Rattle.event_walk.specs.Walked.{epochs_of, NewestOf, no_amounts, Walked, sums_fit}
 use Rattle.event_walk.proofs.WalkLaws.{meets_le}
@@ -35,16 +35,25 @@ zeros_at zero k = refl
 zeros_at (suc n) zero = refl
 zeros_at (suc n) (suc k) = zeros_at n k
 
--- the first i positions' walks read at most `most` events for each with the publisher
-pub reads_counted : (E : ℕ) (w : Words) (words : List ℕ) (publisher : Key) (from i most : ℕ) → walk_reads E w from ≤ most
-    → sum_below i (λ i. if in_publisher words (i * 9) publisher then walk_reads E w from else 0)
-    ≤ count_below i (λ i. in_publisher words (i * 9) publisher) * most
-reads_counted E w words publisher from i most l =
-    sum_counted _ (λ i. in_publisher words (i * 9) publisher) most i (λ i. one (in_publisher words (i * 9) publisher))
-  where
-    one : (t : Bool) → (if t then walk_reads E w from else 0) ≤ to_nat t * most
-    one true = omega arith
-    one false = omega arith
+-- a position with the publisher reads what its walk reads, another one nothing
+module _ (E : ℕ) (w : Words) (words : List ℕ) (publisher : Key) (from : ℕ) where
+  pub read_none : (i : ℕ) → in_publisher words (i * 9) publisher ≡ false → read_by E w words publisher from i ≡ 0
+  unfolding read_by
+  read_none i e = rw e
+
+  pub read_all : (i : ℕ) → in_publisher words (i * 9) publisher ≡ true → read_by E w words publisher from i ≡ walk_reads E w from
+  unfolding read_by
+  read_all i e = rw e
+
+  -- the first i of them at most `most` events for each with the publisher
+  pub reads_counted : (i most : ℕ) → walk_reads E w from ≤ most
+      → sum_below i (read_by E w words publisher from) ≤ count_below i (λ i. in_publisher words (i * 9) publisher) * most
+  reads_counted i most l =
+      sum_counted _ (λ i. in_publisher words (i * 9) publisher) most i (λ i. one i (in_publisher words (i * 9) publisher) refl)
+    where
+      one : (i : ℕ) (t : Bool) → in_publisher words (i * 9) publisher ≡ t → read_by E w words publisher from i ≤ to_nat t * most
+      one i true e = omega (arith, read_all i e)
+      one i false e = omega (arith, read_none i e)
 
 -- a position that is not with the publisher adds nothing
 pub drawn_none : (E : ℕ) (w : Words) (words : List ℕ) (publisher : Key) (unlocking k i : ℕ) → in_publisher words (i * 9) publisher ≡ false
@@ -61,10 +70,6 @@ module _ (E : ℕ) (w : Words) (words : List ℕ) (publisher : Key) (from unlock
   abbrev fits_at : ℕ → Bool
   fits_at i = not (in_publisher words (i * 9) publisher) || walk_fits E w (position_from words (i * 9)) from unlocking
 
-  -- how many events its walk reads
-  abbrev read_by : ℕ → ℕ
-  read_by i = if in_publisher words (i * 9) publisher then walk_reads E w from else 0
-
   -- a slot's amount is a word
   abbrev slot_fits : ℕ → Bool
   slot_fits k = ltb (slot_amount E w words publisher from unlocking k) word
@@ -77,7 +82,7 @@ module _ (E : ℕ) (w : Words) (words : List ℕ) (publisher : Key) (from unlock
   pub record Gathering (i : ℕ) (g : EventAmounts) : Type 0 where
     pub amounts : (k : ℕ) → get_or g.amounts k 0 ≡ so_far i k
     pub small : (k : ℕ) → get_or g.amounts k 0 < word
-    pub reads : g.reads ≡ sum_below i read_by
+    pub reads : g.reads ≡ sum_below i (read_by E w words publisher from)
     pub fitting : all_below i fits_at ≡ true
 
   -- ---- the start
@@ -86,7 +91,7 @@ module _ (E : ℕ) (w : Words) (words : List ℕ) (publisher : Key) (from unlock
   gather_start = record {
     amounts = λ k. zeros_at 52 k ∙ none k (ltb k (walk_meets E w from));
     small = λ k. omega (arith, zeros_at 52 k);
-    reads = sum_none read_by;
+    reads = sum_none (read_by E w words publisher from);
     fitting = all_none fits_at;
   }
     where
@@ -127,7 +132,7 @@ module _ (E : ℕ) (w : Words) (words : List ℕ) (publisher : Key) (from unlock
     gather_other e = record {
       amounts = λ k. s.amounts k ∙ same k (ltb k (walk_meets E w from));
       small = s.small;
-      reads = rw (s.reads, sum_more read_by i, here_is false e, add-zero);
+      reads = rw (s.reads, sum_more (read_by E w words publisher from) i, read_none E w words publisher from i (here_is false e), add-zero);
       fitting = all_more fits_at i s.fitting (rw (here_is false e));
     }
       where
@@ -165,7 +170,13 @@ module _ (E : ℕ) (w : Words) (words : List ℕ) (publisher : Key) (from unlock
         gather_walked r walked = record {
           amounts = λ k. walked.amounts k ∙ amount k (lt_or_le k (length (epochs_of n)));
           small = λ k. little k (lt_or_le k (length (epochs_of n)));
-          reads = rw (walked.reads, s.reads, newest.reads, sum_more read_by i, here_is true matches);
+          reads = rw (
+            walked.reads,
+            s.reads,
+            newest.reads,
+            sum_more (read_by E w words publisher from) i,
+            read_all E w words publisher from i (here_is true matches),
+          );
           fitting = all_more fits_at i s.fitting (rw (here_is true matches, ← is) (walk_fits_law E w from n newest p unlocking span known));
         }
           where

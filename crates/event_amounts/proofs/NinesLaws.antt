@@ -16,7 +16,7 @@ use Rattle.positions.specs.Positions.{position_from, in_publisher}
 use Rattle.positions.proofs.NinesLaws.{nines_length, nine_position}
 use Rattle.image.specs.Layout.{Words}
 use Rattle.event_walk.specs.declared.EventAmounts.{EventAmounts}
-use Rattle.event_walk.specs.Walk.{walk_length, walk_meets, walk_reads, walk_fits, drawn_at, slot_amount, gather_fits, reads_of}
+use Rattle.event_walk.specs.Walk.{walk_length, walk_meets, walk_fits, drawn_at, slot_amount, gather_fits, read_by, reads_of}
 use Rattle.event_amounts.specs.Records.{records_words}
 use Rattle.event_amounts.specs.Gathered.{GatheredOf}
 use Rattle.event_amounts.proofs.RecordLaws.{record_in_words, items_count, item_position}
@@ -51,13 +51,15 @@ module _ (E : ℕ) (w : Words) (a b : List ℕ) (publisher : Key) (from unlockin
         all_same _ (λ k. ltb (slot_amount E w b publisher from unlocking k) word) (walk_length E w) (λ k l. ap (λ (x : ℕ). ltb x word) (amount_same k)),
       )
 
-  abbrev read_in : List ℕ → ℕ → ℕ
-  read_in words i = if in_publisher words (i * 9) publisher then walk_reads E w from else 0
+  read_same : (i : ℕ) → i < length a / 9 → read_by E w a publisher from i ≡ read_by E w b publisher from i
+  unfolding read_by
+  read_same i l = rw (in_same i l)
 
   reads_same : reads_of E w a publisher from ≡ reads_of E w b publisher from
   unfolding reads_of
   reads_same =
-      sum_same (read_in a) (read_in b) (length a / 9) (λ i l. rw (in_same i l)) ∙ ap (λ (n : ℕ). sum_below n (read_in b)) count
+      sum_same (read_by E w a publisher from) (read_by E w b publisher from) (length a / 9) read_same
+      ∙ ap (λ (n : ℕ). sum_below n (read_by E w b publisher from)) count
 
   pub gathered_same : (r : Option EventAmounts) → GatheredOf E w a publisher from unlocking r → GatheredOf E w b publisher from unlocking r
   gathered_same (Some r) g = record {

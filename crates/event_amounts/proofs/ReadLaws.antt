@@ -10,32 +10,31 @@ use lib.Dec.{ltb}
 use lib.ListN.{length, get_or}
 use borrow.Author.Tests.{lt-ltb}
 use Rattle.types.specs.Base.{word, sum_below, count_below}
-use Rattle.std.specs.Prelude.{if◌then◌else◌}
 use Rattle.types.proofs.Below.{sum_none, sum_skips, sum_le, count_none, count_le, count_skips}
 use Rattle.positions.specs.declared.Key.{Key}
 use Rattle.positions.specs.Positions.{in_publisher}
 use Rattle.image.specs.Layout.{num_events, head, Words}
 use Rattle.event_walk.specs.declared.EventAmounts.{EventAmounts}
-use Rattle.event_walk.specs.Walk.{walk_meets, walk_reads, drawn_at, slot_amount, reads_of}
+use Rattle.event_walk.specs.Walk.{walk_meets, drawn_at, slot_amount, read_by, reads_of}
 use Rattle.event_walk.proofs.WalkLaws.{length_le, length_count, reads_le, meets_read}
 use Rattle.event_amounts.specs.Gathered.{Gathers}
-use Rattle.event_amounts.proofs.GatherLaws.{drawn_none, reads_counted, slot_fits_law}
+use Rattle.event_amounts.proofs.GatherLaws.{drawn_none, read_none, read_all, reads_counted, slot_fits_law}
 
 -- [9] 'With no matching position .. it is 0'
 pub reads_no_match : (E : ℕ) (w : Words) (words : List ℕ) (publisher : Key) (from : ℕ)
     → ((i : ℕ) → i < length words / 9 → in_publisher words (i * 9) publisher ≡ false) → reads_of E w words publisher from ≡ 0
 unfolding reads_of
-reads_no_match E w words publisher from none = sum_skips _ 0 (length words / 9) (omega arith) (λ i _ l. rw (none i l)) ∙ sym (sum_none _)
+reads_no_match E w words publisher from none = sum_skips _ 0 (length words / 9) (omega arith) (λ i _ l. read_none E w words publisher from i (none i l)) ∙ sym (sum_none _)
 
 -- [9] 'or with n of 0, it is 0'
 pub reads_no_event : (E : ℕ) (w : Words) (words : List ℕ) (publisher : Key) (from : ℕ) → w (head num_events) ≡ 0 → reads_of E w words publisher from ≡ 0
 unfolding reads_of
 reads_no_event E w words publisher from none =
-    sum_skips _ 0 (length words / 9) (omega arith) (λ i _ _. each (in_publisher words (i * 9) publisher)) ∙ sym (sum_none _)
+    sum_skips _ 0 (length words / 9) (omega arith) (λ i _ _. each i (in_publisher words (i * 9) publisher) refl) ∙ sym (sum_none _)
   where
-    each : (t : Bool) → (if t then walk_reads E w from else 0) ≡ 0
-    each true = omega (arith, reads_le E w from, length_count E w)
-    each false = refl
+    each : (i : ℕ) (t : Bool) → in_publisher words (i * 9) publisher ≡ t → read_by E w words publisher from i ≡ 0
+    each i true e = omega (arith, read_all E w words publisher from i e, reads_le E w from, length_count E w)
+    each i false e = read_none E w words publisher from i e
 
 module _ (E : ℕ) (w : Words) (words : List ℕ) (publisher : Key) (from : ℕ) where
   abbrev here : ℕ → Bool
@@ -57,8 +56,8 @@ module _ (E : ℕ) (w : Words) (words : List ℕ) (publisher : Key) (from : ℕ)
     unfolding reads_of
     reads_least = sum_le adds_to _ (length words / 9) (λ i l. one i (here i) refl)
       where
-        one : (i : ℕ) (t : Bool) → here i ≡ t → adds_to i ≤ (if t then walk_reads E w from else 0)
-        one i true e = omega (arith, count_le (λ k. ltb 0 (drawn_at E w words publisher unlocking k i)) (walk_meets E w from), meets_read E w from)
+        one : (i : ℕ) (t : Bool) → here i ≡ t → adds_to i ≤ read_by E w words publisher from i
+        one i true e = omega (arith, count_le (λ k. ltb 0 (drawn_at E w words publisher unlocking k i)) (walk_meets E w from), meets_read E w from, read_all E w words publisher from i e)
         one i false e =
             let f : ℕ → Bool = λ k. ltb 0 (drawn_at E w words publisher unlocking k i) in
             omega (

@@ -60,8 +60,3 @@ walked_fixes n s start a b e x y =
     let amounts = added_of_fixes (epochs_of n) s start.amounts a.amounts b.amounts e x.amounts y.amounts in
     let reads : a.reads ≡ b.reads = x.reads ∙ sym y.reads in
     λ i. record { amounts = amounts i; reads = reads i }
-
--- an array's length is its type's
-abbrev pub Long : Option EventAmounts → Type 0
-Long (Some r) = length r.amounts ≡ 52
-Long None = Unit {0}

@@ -60,6 +60,10 @@ gather_fits E w words publisher from unlocking =
     all_below (length words / 9) (λ i. not (in_publisher words (i * 9) publisher) || walk_fits E w (position_from words (i * 9)) from unlocking)
     && all_below (walk_length E w) (λ k. ltb (slot_amount E w words publisher from unlocking k) word)
 
--- [9] 'the read count of a payment .. shall be exactly the events read: for each matching position'
+-- [9] 'for each matching position': how many events position i reads
+unfoldable pub read_by : (E : ℕ) → Words → List ℕ → Key → (from i : ℕ) → ℕ
+read_by E w words publisher from i = if in_publisher words (i * 9) publisher then walk_reads E w from else 0
+
+-- [9] 'the read count of a payment .. shall be exactly the events read'
 unfoldable pub reads_of : (E : ℕ) → Words → List ℕ → Key → (from : ℕ) → ℕ
-reads_of E w words publisher from = sum_below (length words / 9) (λ i. if in_publisher words (i * 9) publisher then walk_reads E w from else 0)
+reads_of E w words publisher from = sum_below (length words / 9) (read_by E w words publisher from)
