@@ -27,7 +27,7 @@
 #include <stddef.h>
 #include <stdint.h>
 
-#define POOL_MIRROR_VERSION "1.3.0"
+#define POOL_MIRROR_VERSION "1.4.0"
 
 #ifdef __cplusplus
 extern "C" {
@@ -100,7 +100,7 @@ enum pool_mirror_refusal {
     POOL_MIRROR_PUBLISHER_NOT_FOUND = 11,                        /* no seat has the publisher's key */
     POOL_MIRROR_OUTDATED_PUBLISHER_ACCOUNTING = 12,              /* the pool's last epoch is not the current one */
     POOL_MIRROR_DOES_NOT_FIT = 13,                               /* a number does not fit; each function says which */
-    POOL_MIRROR_CLAIMABLE_OVER_CUSTODY = 14,                     /* claimable is above the custody balance */
+    POOL_MIRROR_CLAIMABLE_OVER_CUSTODY = 14,                     /* never given: an advance with claimable above custody passes */
     POOL_MIRROR_UNEXPECTED_POSITION_STATE = 15,                  /* a remove in PREUNLOCKING, UNLOCKING or no state */
     POOL_MIRROR_PAYMENT_ABOVE_CLAIMABLE = 16,                    /* the payment is above claimable */
     POOL_MIRROR_PUBLISHER_STAKE_ACCOUNT_MISMATCH = 17,           /* the account given is not the seat's stake account */
@@ -125,8 +125,9 @@ uint64_t pool_mirror_fresh(uint64_t *pool, size_t pool_len, size_t p, size_t e, 
  * y is the rate for one epoch, custody the balance of the reward custody, verified 1 for a verified message; epoch_duration is in seconds (604,800 on the
  * chain).
  * answer: y' (lower than y where custody does not cover it), the amount set aside, rows matched with a seat, rows newly seated, rows dropped.
+ * Where claimable is above custody, y' is 0 and nothing is set aside; epochs pass and rows are seated as ever.
  * Refusals: 1, 2, 3, 5, 7, 8, 13 for a negative time, 9, 13 for a total outside 0 to 2^63 - 1, an eligible sum or a reward past 64 bits or n reaching
- * 2^63, 14. */
+ * 2^63. */
 uint64_t pool_mirror_advance(uint64_t *pool, size_t pool_len, size_t p, size_t e, uint64_t current_epoch, uint64_t y, uint64_t custody,
                              uint64_t verified, const uint8_t *caps, size_t caps_len, uint64_t epoch_duration, uint64_t answer[5]);
 

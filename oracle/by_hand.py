@@ -1,8 +1,9 @@
-"""Images, payments and changes written by hand, for the cases and for the table."""
+"""Images, advances, payments and changes written by hand, for the cases and for the table."""
+import generate
 import model
 import operations
 import payments
-from model import M, Payment
+from model import M, Advance, Payment
 from operations import Accounts, Change, Creation, Slash
 
 A, B, C, D, STAKE, ACCOUNT = (bytes([n]).ljust(32, b"\0") for n in (1, 2, 3, 4, 7, 9))
@@ -47,11 +48,16 @@ def payment(*positions, now=10, publisher=A, account=ACCOUNT, epoch=0, index=3, 
     return payments.line(Payment(now, publisher, account, epoch, index, other, flag, words, 0))
 
 
+def advance(now, custody, rows=(), y=10_000, verified=1, name="advance"):
+    """The line of an advance or a forecast; the time is the epoch's first second."""
+    return generate.line(name, Advance(now, y, custody, verified, generate.message(now * WEEK, list(rows)), WEEK))
+
+
 # Changes.
 
-def seats(keys=(A,), stakes=(STAKE,), own=(), other=(), slashes=(), fees=(), last=10, n=0, p=2, e=1, claimable=0):
-    """The words of an image by its seats: sides as (total, change)."""
-    words = pool([], p, e, n, last, claimable, keys, stakes)
+def seats(keys=(A,), stakes=(STAKE,), own=(), other=(), slashes=(), fees=(), last=10, n=0, p=2, e=1, claimable=0, epochs=()):
+    """The words of an image by its seats: sides as (total, change); its newest events as `pool` has them."""
+    words = pool(epochs, p, e, n, last, claimable, keys, stakes)
     found = model.Pool(p, e, words)
     for at, sides in ((found.own, own), (found.other, other)):
         words[at:at + 2 * len(sides)] = [x % model.WORD for side in sides for x in side]

@@ -1,7 +1,7 @@
 """Demand 3, checked on a journal's lists of calls from fresh pools, by document 01's 'The words of demand 3'.
 
-A list begins with a comment that says what custody is, ahead of `fresh`; further comments say what is deposited and where it ends. What is
-remembered of it comes from the lines and from the answers that a program gave to them: the images are those that it answered to `nonzero`.
+A list begins with a comment that says what custody is, ahead of `fresh`; further comments say what is deposited, what is withdrawn and where it ends.
+What is remembered of it comes from the lines and from the answers that a program gave to them: the images are those that it answered to `nonzero`.
 """
 import collections
 
@@ -9,7 +9,7 @@ import model
 from image import Pool, Refused, WORD, ZERO_KEY, positions_of
 from model import numbers_of
 
-START, DEPOSIT, END = "a list of calls, custody", "deposit", "end of the list"
+START, DEPOSIT, WITHDRAW, END = "a list of calls, custody", "deposit", "withdraw", "end of the list"
 MEANT = "; accepted payments are within the totals"      # by those who wrote the list: it holds their books against those here
 
 
@@ -23,6 +23,9 @@ class History:
     def __init__(self, size, unlocking, custody, meant, counts):
         self.p, self.e = size
         self.unlocking, self.custody, self.meant, self.counts = unlocking, custody, meant, counts
+        self.deposits = self.withdrawals = self.falls = 0       # with the custody that the list starts with, what makes up the balance
+        self.withdrawn = False  # whether anything was
+        self.most = None        # that claimable may be behind the last call, an accepted advance
         self.first = self.now = None
         self.aside = self.paid = 0
         self.totals = {}        # by passed epoch: by seat and side, of the occupied seats, the total written from and what is drawn
@@ -34,21 +37,40 @@ class History:
         if not holds:
             raise Wrong(says)
 
+    # The balance, as the token side keeps it.
+
+    def balance(self):
+        return self.custody + self.deposits - self.withdrawals - self.falls
+
+    def withdraw(self, amount):
+        self.counts["withdrawals"] += 1
+        self.counts["lists with withdrawals"] += not self.withdrawn
+        self.withdrawn = True
+        self.clause(amount <= self.balance(), f"{amount} withdrawn, custody is {self.balance()}")
+        self.withdrawals += amount
+
     # The calls.
 
     def fresh(self, epoch):
         self.first = self.now = epoch - 1
 
-    def advance(self, fields, values):
+    def advance(self, fields, values, number):
+        """Told the balance, and not beyond the larger of it and of what was claimable."""
+        custody, claimable = int(fields[2]), self.words[1]
+        self.clause(custody == self.balance(), f"an advance was told {custody}, custody is {self.balance()}")
+        if number == 0:
+            self.counts["drained"] += claimable > custody
+            self.most = max(custody, claimable)
+            self.write(int(fields[0]), int(values[1]))
+
+    def write(self, now, aside):
         """Each passed epoch's event, written from the totals of the pool that was handed over, rolled behind the first."""
-        now, custody = int(fields[0]), int(fields[2])
-        self.clause(custody == self.custody, f"an advance was told {custody}, custody is {self.custody}")
         pool = Pool(self.p, self.e, self.words)
         occupied = [seat for seat in range(self.p) if pool.key(seat) != ZERO_KEY]
         for epoch in range(max(self.now, now - self.e), now):
             self.totals[epoch] = {(seat, side): [self.total(pool, side, seat, epoch > self.now), 0] for seat in occupied for side in "so"}
         self.now = now
-        self.aside += int(values[1])
+        self.aside += aside
         for epoch in [e for e in self.totals if e < now - self.e]:
             self.leave(self.totals.pop(epoch))
 
@@ -97,8 +119,9 @@ class History:
             raise Wrong("an accepted payment is beyond the totals, and the list says that none is")
         delegator, publisher, *_, fall = map(int, values)
         self.clause(fall == delegator + (0 if fields[5] == "none" else publisher), f"parts {delegator} and {publisher}, custody falls by {fall}")
+        self.clause(fall <= self.balance(), f"custody falls by {fall}, it is {self.balance()}")
         self.paid += delegator + publisher
-        self.custody -= fall
+        self.falls += fall
         for (epoch, *place), amount in draws.items():
             if tuple(place) in self.totals[epoch]:
                 self.totals[epoch][tuple(place)][1] += amount
@@ -107,10 +130,9 @@ class History:
 
     def call(self, name, fields, answer):
         number = int(answer[1]) if answer[0] == "refused" else 0
-        if name == "payment":
-            self.payment(fields, answer[1:], number)
-        elif name == "advance" and not number:
-            self.advance(fields, answer[1:])
+        self.most = None
+        if name in ("advance", "payment"):
+            getattr(self, name)(fields, answer[1:], number)
 
     # The clauses on an image.
 
@@ -120,8 +142,13 @@ class History:
         self.ring(Pool(self.p, self.e, words))
 
     def books(self, words):
-        self.clause(words[1] + self.paid == self.aside, f"claimable {words[1]}, paid {self.paid}, set aside {self.aside}")
-        self.clause(words[1] <= self.custody < WORD, f"claimable {words[1]}, custody {self.custody}")
+        claimable, balance = words[1], self.balance()
+        self.clause(claimable + self.paid == self.aside, f"claimable {claimable}, paid {self.paid}, set aside {self.aside}")
+        self.clause(balance < WORD, f"custody {balance}")
+        if self.most is not None:
+            self.clause(claimable <= self.most, f"claimable {claimable}, the larger of custody told and claimable before {self.most}")
+        if not self.withdrawn:
+            self.clause(claimable <= balance, f"claimable {claimable}, custody {balance}")
 
     def ring(self, pool):
         words, n = pool.words, pool.words[pool.n]
@@ -160,7 +187,9 @@ class Check:
             self.history = History(self.size, self.unlocking, custody, text.endswith(MEANT), self.counts)
             self.counts["lists"] += 1
         elif self.history and text.startswith(DEPOSIT):
-            self.history.custody += int(text.split()[-1])
+            self.history.deposits += int(text.split()[-1])
+        elif self.history and text.startswith(WITHDRAW):
+            self.history.withdraw(int(text.split()[-1]))
         elif self.history and text == END:
             self.history.end()
             self.history = None
@@ -189,11 +218,14 @@ class Check:
         """The places of the lines behind which a clause doesn't hold, and which; the rest of such a list is passed over."""
         answers, found = iter(answers), []
         for at, line in enumerate(lines):
-            if line.answer is None:
-                self.comment(line.text[2:])
+            answer = next(answers, "(no answer)") if line.answer is not None else None
+            if line.again:
                 continue
             try:
-                self.line(line.text, next(answers, "(no answer)"))
+                if answer is None:
+                    self.comment(line.text[2:])
+                else:
+                    self.line(line.text, answer)
             except Wrong as w:
                 found.append((at, w.args[0]))
                 self.history = None

@@ -1,4 +1,6 @@
-"""Whether demand3.py can fail: lists of calls with the model's answers, and in each a fault put into one answer, which it must find."""
+"""Whether demand3.py can fail: lists of calls with the model's answers, and in each a fault put into one answer or into what is deposited and
+withdrawn, which it must find."""
+import collections
 import random
 
 import demand3
@@ -8,15 +10,16 @@ import stakers
 SIZES = [(1, 1), (2, 4), (3, 7)]
 
 
-def written(size, seed):
-    """The lines of one list, and the answers (none for a comment)."""
+def written(size, seed, withdraws):
+    """The lines of one list, with withdrawals or without, and the answers (none for a comment)."""
     j = journal.Journal()
-    stakers.Stakers(j, f"faults {seed}", *size, 604_800, 1).staking_list()
-    return j.lines, [line.answer for line in j.lines]
+    stakers.Stakers(j, f"faults {seed}", *size, 604_800, 1).staking_list(withdraws=withdraws)
+    lines = [line for line in j.lines if not line.again]
+    return lines, [line.answer for line in lines]
 
 
-class Faults:
-    """Each answers the answers with a fault in them, or none where the list has no place for it."""
+class Edited:
+    """A list and its answers, and what faults are made of."""
 
     def __init__(self, lines, answers, size, r):
         self.lines, self.answers, self.r = lines, answers, r
@@ -30,6 +33,36 @@ class Faults:
 
     def put(self, at, answer):
         return self.answers[:at] + [answer] + self.answers[at + 1:]
+
+    def comments(self, text):
+        """Where such a comment stands."""
+        return [i for i, line in enumerate(self.lines) if line.text.startswith("# " + text)]
+
+    def without(self, at):
+        """A line left out."""
+        self.lines = self.lines[:at] + self.lines[at + 1:]
+        return self.answers[:at] + self.answers[at + 1:]
+
+    def drained_for(self, i, amount, last):
+        """So much withdrawn ahead of one line and deposited again behind another."""
+        for at, text in ((last + 1, demand3.DEPOSIT), (i, demand3.WITHDRAW)):
+            self.lines = self.lines[:at] + [journal.Line(f"# {text} {amount}", None, None, None)] + self.lines[at:]
+            self.answers = self.answers[:at] + [None] + self.answers[at:]
+        return self.answers
+
+    def before(self, i):
+        """What is remembered of the list ahead of a line."""
+        check = demand3.Check()
+        check.journal(self.lines[:i], [a for a in self.answers[:i] if a is not None])
+        return check.history
+
+    def accepted(self, fits):
+        """Accepted advances that fit: told custody, claimable before and whether anything was withdrawn so far."""
+        found = self.places("advance", lambda v, i: v[0] == "ok")
+        return [i for i in found if fits(int(self.lines[i].text.split()[3]), self.claimable_before(i), any(at < i for at in self.comments(demand3.WITHDRAW)))]
+
+    def claimable_before(self, i):
+        return self.words(max(at for at in range(i) if self.lines[at].name() == "nonzero"))[1]
 
     def value(self, name, at, fits=lambda values, i: True):
         """A value of an accepted call's answer, one more."""
@@ -59,6 +92,24 @@ class Faults:
 
     def bump(self, at):
         return lambda words: words.__setitem__(at, words[at] + 1)
+
+    def beyond(self, found):
+        """Of one of these advances set aside raised by one past the larger of custody told and claimable before, and claimable from then on."""
+        if not found:
+            return None
+        i = self.r.choice(found)
+        values, custody = self.answers[i].split(), int(self.lines[i].text.split()[3])
+        more = max(custody, self.claimable_before(i)) + 1 - self.words(i + 1)[1]
+        values[2] = str(int(values[2]) + more)
+        self.answers = self.put(i, " ".join(values))
+        for at in self.places("nonzero", lambda v, at: at > i):
+            words = self.words(at)
+            self.answers = self.put(at, self.nonzero([words[0], words[1] + more] + words[2:]))
+        return self.answers
+
+
+class Faults(Edited):
+    """Each answers the answers with a fault in them, or none where the list has no place for it."""
 
     def set_aside(self):
         return self.value("advance", 2)
@@ -112,27 +163,38 @@ class Faults:
         return self.put(i + 1, self.nonzero(after[:2] + before[2:]))
 
     def more_than_custody(self):
-        """Set aside raised past what custody is told, and claimable from then on."""
-        i = self.r.choice(self.places("advance", lambda v, i: v[0] == "ok"))
-        values, custody = self.answers[i].split(), int(self.lines[i].text.split()[3])
-        more = custody + 1 - self.words(i + 1)[1]
-        values[2] = str(int(values[2]) + more)
-        self.answers = self.put(i, " ".join(values))
-        for at in self.places("nonzero", lambda v, at: at > i):
-            words = self.words(at)
-            self.answers = self.put(at, self.nonzero([words[0], words[1] + more] + words[2:]))
-        return self.answers
+        return self.beyond(self.accepted(lambda custody, claimable, withdrawn: not withdrawn))
+
+    def more_than_custody_behind_a_withdrawal(self):
+        return self.beyond(self.accepted(lambda custody, claimable, withdrawn: withdrawn and claimable <= custody))
+
+    def set_aside_on_a_drained_custody(self):
+        return self.beyond(self.accepted(lambda custody, claimable, withdrawn: claimable > custody))
 
     def deposit_not_counted(self):
-        found = [i for i, line in enumerate(self.lines) if line.text.startswith("# " + demand3.DEPOSIT)]
+        found = self.comments(demand3.DEPOSIT)
+        return self.without(self.r.choice(found)) if found else None
+
+    def withdrawal_not_counted(self):
+        """One that an advance comes behind."""
+        advances = self.accepted(lambda *_: True)
+        found = [i for i in self.comments(demand3.WITHDRAW) if advances and i < advances[-1]]
+        return self.without(self.r.choice(found)) if found else None
+
+    def payment_of_more_than_the_balance(self):
+        """All but one unit of what it takes is withdrawn ahead of it, and deposited again behind its image."""
+        found = self.places("payment", lambda v, i: v[0] == "ok" and int(v[6]) > 0)
         if not found:
             return None
         i = self.r.choice(found)
-        self.lines = self.lines[:i] + self.lines[i + 1:]
-        return self.answers[:i] + self.answers[i + 1:]
+        return self.drained_for(i, self.before(i).balance() - int(self.answers[i].split()[6]) + 1, i + 1)
+
+    def withdrawal_of_more_than_the_balance(self):
+        i = self.r.choice(self.places("nonzero", lambda v, i: True)) + 1
+        return self.drained_for(i, self.before(i).balance() + 1, i - 1)
 
 
-FAULTS = [f for name, f in vars(Faults).items() if callable(f) and name not in ("__init__", "places", "put", "value", "word", "words", "nonzero", "bump")]
+FAULTS = [f for f in vars(Faults).values() if callable(f)]
 
 
 def wrong(lines, answers):
@@ -140,18 +202,20 @@ def wrong(lines, answers):
 
 
 def run():
-    """How many faults were put in, and those that were not found."""
-    count, missed = 0, []
+    """How many faults were put in; those that were not found, and those that no list had a place for."""
+    tried, missed = collections.Counter(), []
     for size in SIZES:
-        for seed in range(2):
-            lines, answers = written(size, seed)
-            missed += [f"a fault where there is none: {found}" for found in wrong(lines, answers)]
+        for seed in range(4):
+            lines, answers = written(size, seed, seed % 2 == 0)
+            if found := wrong(lines, answers):
+                missed.append(f"a fault where there is none: {found}")
+                continue
             for fault in FAULTS:
                 faults = Faults(lines, answers, size, random.Random(seed))
                 other = fault(faults)
                 if other is None:
                     continue
-                count += 1
+                tried[fault] += 1
                 if not wrong(faults.lines, other):
                     missed.append(f"{fault.__name__}, P {size[0]}, E {size[1]}")
-    return count, missed
+    return sum(tried.values()), missed + [f"{fault.__name__}: never placed" for fault in FAULTS if not tried[fault]]

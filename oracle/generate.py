@@ -3,6 +3,7 @@
 What is written next depends on the image that the model keeps, so that amounts, epochs and custody come close to the edges. Here
 are fresh, advance and forecast; payments.py adds its own, levels.py says how often each list comes.
 """
+import copy
 import random
 
 import model
@@ -140,20 +141,27 @@ class Generator:
         time = start + self.r.choice([0, max(0, self.seconds - 1), self.r.randrange(max(1, self.seconds))])
         return time if time < HALF else min(start, HALF - 1)
 
+    def most_aside(self, site, a, name):
+        """R, or 0 where it isn't worked out."""
+        whole = a._replace(custody=WORD - 1)
+        try:
+            return site.forecast(whole)[0] if name == "forecast" else site.worked_out(whole)[3][1]
+        except model.Refused:
+            return 0
+
     def custody(self, a, name):
         """Around what is claimable, and around the sum with what would be set aside."""
-        claimable = self.claimable()
-        try:
-            whole = a._replace(custody=WORD - 1)
-            r = self.site.forecast(whole)[0] if name == "forecast" else self.site.worked_out(whole)[3][1]
-        except model.Refused:
-            r = 0
+        claimable, r = self.claimable(), self.most_aside(self.site, a, name)
         edge = claimable + r
         near = [edge - 1, edge, edge, edge + 1, claimable + self.r.randrange(r + 1), (claimable + edge) // 2, claimable,
                 claimable + 1, WORD - 1, WORD - 1, self.r.getrandbits(64)]
-        if self.r.random() < .05:
-            near = [claimable - 1, 0, claimable // 2]
+        if self.r.random() < .1:
+            return self.drained(claimable)
         return min(max(0, self.r.choice(near)), WORD - 1)
+
+    def drained(self, claimable):
+        """Below what is claimable: one below, half of it, nothing."""
+        return self.r.choice([max(0, claimable - 1), claimable // 2, 0])
 
     # Advances that are refused for their figures, if at all.
 
@@ -342,9 +350,32 @@ class Generator:
         if self.r.random() < .5 and t < WORD:
             words[1] = WORD - 1 - t * a.y // model.M + self.r.randrange(-1, 2)
         words[1] = min(words[1], WORD - 1)
+        if self.r.random() < .5:
+            a = a._replace(custody=self.drained(words[1]))
         self.journal.put(words)
         self.call("forecast", a)
         self.call("advance", a)
+
+    def to_drain(self, a):
+        """What is claimable ahead of an advance on a drained custody: at times its sum with R is around 2^64."""
+        site = copy.copy(self.site)
+        site.words = [site.words[0], 0] + site.words[2:]
+        edge = WORD - 1 - self.most_aside(site, a, self.r.choice(["advance", "forecast"])) + self.r.randrange(-1, 2)
+        return min(self.r.choice([1, 2, self.amount() + 1, max(1, self.claimable()), edge, edge]), WORD - 1)
+
+    def drained_list(self):
+        """Stake, and a custody from which a sponsor has withdrawn at each advance; then one as any."""
+        self.scale = self.new_scale()
+        self.fresh()
+        self.journal.put(self.staked())
+        for _ in range(self.r.randrange(1, 4)):
+            a, words = self.plain(), list(self.site.words)
+            words[1] = self.to_drain(a)
+            self.journal.put(words)
+            a = a._replace(custody=self.drained(words[1]))
+            self.call("forecast", a)
+            self.call("advance", a)
+        self.step()
 
     def all_calls(self, a):
         self.call("forecast", a)

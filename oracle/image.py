@@ -14,10 +14,6 @@ class Refused(Exception):
     """Its one argument is document 01's number."""
 
 
-class Listed(Refused):
-    """Where the Rust goes on."""
-
-
 def refuse(number, condition):
     if condition:
         raise Refused(number)

@@ -15,8 +15,9 @@ MOST_EPOCHS = 100_000       # the oracle's, driver/checks.rs
 # Who decides the expected answer.
 RUST = "the Rust"
 OUTSIDE = "the model: outside"      # the oracle must answer `outside`
-LISTED = "the model: listed"        # a difference that docs/DIFFERENCES.md lists; the oracle must answer as the model says the Rust does
-APART = "the model: behind those"   # the image after one of the two, before both have the same again
+# What docs/DIFFERENCES.md lists: the oracle must answer as the model says the Rust does.
+COUNT, RATE, DRAINED = LISTED = [f"the model: {place}" for place in model.LISTED]
+APART = "the model: behind those"   # the image after one of those, before both have the same again
 WRONG = "the journal's forms"       # a wrong line; the oracle's wording is its own behind the colon
 
 # The calls that can be refused, and the level that each came with. A position's state is asked of no pool; it came with `remove`, which takes it.
@@ -34,13 +35,14 @@ class Line(NamedTuple):
     answer: Optional[str]       # the model's; none for a comment
     decides: Optional[str]
     rust: Optional[str]         # what the oracle must answer; none where that says nothing
+    again: bool = False         # the image that the program has, given to the oracle alone, whose own is apart
 
     def name(self):
         return name_of(self.text)
 
     def gives_image(self):
         """Whether the image is another one behind it, whatever it was."""
-        return self.name() == "new" or (self.name() == "image" and len(self.text.split(None, 1)) > 1)
+        return not self.again and (self.name() == "new" or (self.name() == "image" and len(self.text.split(None, 1)) > 1))
 
 
 class Journal:
@@ -61,13 +63,13 @@ class Journal:
             return OUTSIDE
         if (answer == "refused 2" and name != "fresh") or self.site.passed > MOST_EPOCHS:
             return OUTSIDE
-        if self.site.rust is not None:
-            return LISTED
+        if self.site.listed:
+            return LISTED[model.LISTED.index(self.site.listed)]
         return APART if self.apart and name in ("image", "nonzero") else RUST
 
     def wanted(self, answer, decides):
         """What the oracle must answer."""
-        return {RUST: answer, OUTSIDE: "outside", LISTED: self.site.rust, APART: None}[decides]
+        return self.site.rust if decides in LISTED else {RUST: answer, OUTSIDE: "outside", APART: None}[decides]
 
     def say(self, text):
         """One more line; answers what the model answers. A call finds the same image on both sides."""
@@ -75,6 +77,7 @@ class Journal:
         of_pool = name in CALLS and name != "state"
         if self.apart and of_pool:
             self.put(self.site.words)
+            self.lines[-1] = self.lines[-1]._replace(again=True)
         if name == "new" or (name == "image" and fields):
             self.apart = False
         answer = forms.helped(*text.split()[1:]) if name == "help" else self.site.answer(text)
@@ -95,8 +98,9 @@ class Journal:
     def put(self, words):
         return self.say("image " + (",".join(map(str, words)) or "-"))
 
-    def text(self):
-        return "".join(line.text + "\n" for line in self.lines)
+    def text(self, again=True):
+        """At will without the lines for the oracle alone."""
+        return "".join(line.text + "\n" for line in self.lines if again or not line.again)
 
     def answered(self):
         return [line for line in self.lines if line.answer is not None]

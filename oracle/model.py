@@ -1,19 +1,21 @@
 """Document 01's calls on whole numbers, and the journal's lines around them: fresh, advance, forecast, payment and a position's state; the
 changes of item 9 are operations.py's, the image is image.py's.
 
-Written from document 01's words. It answers where the Rust can't be asked (checks 1 to 5, very many
+Written from the words of document 01 and of document 02's requests [8] and [9]. It answers where the Rust can't be asked (checks 1 to 5, very many
 passed epochs), and is compared with the Rust wherever that can be asked. Where docs/DIFFERENCES.md lists
-that the Rust goes on, it has both answers, document 01's and the Rust's.
+that the Rust answers otherwise, it has both answers, the documents' and the Rust's.
 """
 import copy
 from typing import NamedTuple, Optional
 
 import operations
 import show
-from image import (HALF, IMAGE_ROOM, M, MOST_POSITIONS, WORD, ZERO_KEY, Listed, Pool, Refused, in_range, length, message_of, numbers_of,
+from image import (HALF, IMAGE_ROOM, M, MOST_POSITIONS, WORD, ZERO_KEY, Pool, Refused, in_range, length, message_of, numbers_of,
                    positions_of, refuse, words_of)
 
 MOST_Y = 10_000
+# Where the Rust answers otherwise. At the first two it goes on where document 01 refuses with 13; custody is drained where claimable is above it.
+COUNT, RATE, DRAINED = LISTED = ["n reaches 2^63", "a rate past 64 bits", "a drained custody"]
 
 
 class Caps(NamedTuple):
@@ -96,12 +98,13 @@ def seats_of(pool, keys, rows):
 
 
 def adjusted(t, y, claimable, custody):
-    """Item 5: y' and what is set aside."""
+    """Item 5: y' and what is set aside; [8] where claimable is above custody."""
     r = t * y // M
     refuse(13, r + claimable >= WORD)
+    if claimable > custody:
+        return 0, 0
     if r + claimable <= custody:
         return y, r
-    refuse(14, claimable > custody)
     y = y * (custody - claimable) // r
     return y, t * y // M
 
@@ -198,16 +201,19 @@ class Site:
         self.seconds, self.unlocking = 604_800, 1
         self.words = []
         self.passed = 0             # by the last call, where it got as far as stepping over them
-        self.rust = None            # the Rust's answer to the last call, where document 01 refuses and the Rust goes on
+        self.listed = None          # one of LISTED, if the last call's answer is there
+        self.rust = None            # the Rust's answer to that call
         self.as_the_rust = False
 
     def pool(self):
         return Pool(self.p, self.e, self.words)
 
-    def listed(self, condition):
-        """13, where the Rust goes on."""
-        if condition and not self.as_the_rust:
-            raise Listed(13)
+    def departs(self, place, condition):
+        """Whether the answer is another than the Rust's in this place; never where the Rust's own is asked for."""
+        if not condition or self.as_the_rust:
+            return False
+        self.listed = place
+        return True
 
     def new(self, p, e):
         self.p, self.e = p, e
@@ -235,10 +241,14 @@ class Site:
         return pool, keys, caps.rows, seats_of(pool, keys, caps.rows)
 
     def settled(self, pool, t, a):
-        """Other 13, then 14."""
+        """Other 13; then the Rust alone has 14, where claimable is above custody."""
         refuse(13, t >= WORD)
-        self.listed(pool.words[pool.n] + self.passed >= HALF)
-        return adjusted(t, a.y, pool.words[1], a.custody)
+        refuse(13, self.departs(COUNT, pool.words[pool.n] + self.passed >= HALF))
+        settled = adjusted(t, a.y, pool.words[1], a.custody)
+        drained = pool.words[1] > a.custody
+        self.departs(DRAINED, drained)
+        refuse(14, drained and self.as_the_rust)
+        return settled
 
     def worked_out(self, a):
         """The pool, its seats, the keys that take one, and the answer's values."""
@@ -275,7 +285,7 @@ class Site:
                 continue
             share = at + 9 + 3 * seat       # self ratio, other ratio, fee
             rate = pool.words[at + 1] * pool.words[share if own else share + 1] // M
-            self.listed(rate >= WORD)
+            refuse(13, self.departs(RATE, rate >= WORD))
             of_delegator, of_publisher = parts(amount, rate, pool.words[share + 2], own)
             delegator += of_delegator
             publisher += of_publisher
@@ -353,13 +363,16 @@ class Site:
 
     def answer(self, line):
         """The answer to a line of the journal's forms."""
-        name, *fields = line.split()
-        self.passed, self.rust = 0, None
+        self.passed, self.listed, self.rust = 0, None, None
+        before = copy.copy(self)
+        answer = self.told(*line.split())
+        if self.listed:
+            before.as_the_rust = True
+            self.rust = before.told(*line.split())
+        return answer
+
+    def told(self, name, *fields):
         try:
             return " ".join(["ok", *map(str, self.values(name, fields))])
         except Refused as r:
-            if isinstance(r, Listed):
-                other = copy.copy(self)
-                other.as_the_rust = True
-                self.rust = other.answer(line)
             return f"refused {r.args[0]}"

@@ -1,7 +1,9 @@
-"""Long lists of calls from a fresh pool, with deposits: stakers add and remove stake and are paid what their positions earn, slashes, fees and
-stake accounts change in between, refused calls come in between too. They are the lists of demand 3, which demand3.py checks.
+"""Long lists of calls from a fresh pool, with deposits and, two in five, with withdrawals: stakers add and remove stake and are paid what their
+positions earn, slashes, fees and stake accounts change in between, refused calls come in between too. They are the lists of demand 3, which demand3.py
+checks.
 
-Custody is kept here: every advance is told it. A comment ahead of `fresh` says what it is, others say what is deposited and where the list ends.
+Custody is kept here: every advance is told it. A comment ahead of `fresh` says what it is, others say what is deposited, what is withdrawn and where
+the list ends. A withdrawal or a payment that would take more than there is does not come: the token side refuses it.
 """
 import copy
 
@@ -9,7 +11,7 @@ import model
 import operations
 import states
 from changes import Changes
-from demand3 import DEPOSIT, END, MEANT, START
+from demand3 import DEPOSIT, END, MEANT, START, WITHDRAW
 from generate import message, with_time
 from model import HALF, M, ZERO_KEY, Advance, Payment
 from operations import Accounts, Change, Creation, Slash
@@ -55,11 +57,12 @@ class Staker:
 class Stakers(Changes):
     # The list's beginning.
 
-    def begin_list(self):
+    def begin_list(self, withdraws=None):
         r = self.r
+        self.withdraws = r.random() < .4 if withdraws is None else withdraws
         self.scale = r.choice([30, 10**6, 10**9, 10**9, 10**12, 10**12, 2**50, 2**58])
         self.honest = r.random() < .8           # no staker is paid for more than was staked
-        self.exact = self.honest and r.random() < .5    # what is set aside is paid to the last unit
+        self.exact = self.honest and r.random() < .5    # what is set aside is paid to the last unit, where custody covers it
         self.unit = 10_000 if self.exact else 1         # of all amounts: nothing is rounded then
         self.publishers = sorted(r.sample(self.keys, min(len(self.keys), self.p + 1, 5)))
         self.town = [Staker(r) for _ in range(r.randrange(2, 7))]
@@ -79,10 +82,14 @@ class Stakers(Changes):
         self.journal.say("nonzero")
         return answer.split()
 
+    def asked(self, text):
+        """What the call would be answered."""
+        return copy.copy(self.site).answer(text).split()
+
     def refused(self, text):
         """Whether the call would be refused, and with which number."""
-        answer = copy.copy(self.site).answer(text)
-        return int(answer.split()[1]) if answer.startswith("refused") else 0
+        answer = self.asked(text)
+        return int(answer[1]) if answer[0] == "refused" else 0
 
     # Epochs pass.
 
@@ -103,8 +110,22 @@ class Stakers(Changes):
             return self.r.choice([1, 1, 1, e, self.r.randint(1, e)])
         return self.r.choice([1] * 12 + [2, 2, 3, e, e + 1, 2 * e, max(1, e - 1), self.r.randrange(1, 300)])
 
+    def withdraw(self, share=1):
+        """All of custody, down to about what is claimable or a part of it, or some; at times in several parts."""
+        if not self.withdraws or self.r.random() > share:
+            return
+        for _ in range(self.r.choice([1, 1, 1, 2, 3])):
+            claimable = self.claimable()
+            left = self.r.choice([0, claimable - 1, claimable, claimable + 1, claimable // 2, self.r.randrange(claimable + 1), self.r.randrange(self.balance + 1)])
+            amount = self.balance - min(max(0, left), self.balance)
+            if amount:
+                self.journal.comment(f"{WITHDRAW} {amount}")
+                self.balance -= amount
+
     def deposit(self, a):
-        """What covers the advance, or about that, or less."""
+        """What covers the advance, or about that, or less; where withdrawals come also about what is claimable, or none."""
+        if self.withdraws and self.r.random() < .5:
+            return self.put_in(self.close(max(0, self.claimable() - self.balance)) if self.r.random() < .3 else 0)
         try:
             aside = self.site.worked_out(a._replace(custody=WHOLE))[3][1]
         except model.Refused:
@@ -115,6 +136,9 @@ class Stakers(Changes):
             amount += self.scale
         if self.exact and self.r.random() < .95:
             amount = short
+        self.put_in(amount)
+
+    def put_in(self, amount):
         amount = min(amount, WHOLE - self.balance)
         if amount:
             self.journal.comment(f"{DEPOSIT} {amount}")
@@ -132,6 +156,7 @@ class Stakers(Changes):
             self.say(self.advance_line(self.r.choice([a._replace(verified=0), a._replace(now=self.last()), a._replace(y=10_001),
                                                       a._replace(message=a.message[:10]), a._replace(message=with_time(a.message, 0))])))
         self.deposit(a)
+        self.withdraw(.15)
         self.say(self.advance_line(a))
 
     def advance_line(self, a):
@@ -152,7 +177,10 @@ class Stakers(Changes):
         return Payment(self.last(), publisher, staker.account, *staker.record(publisher), other, 1, staker.words(), self.unlocking)
 
     def pay_out(self, staker, p):
-        """Says it; the answer has the record, and by how much custody falls."""
+        """Says it, unless custody would fall by more than it holds; the answer has the record, and by how much custody falls."""
+        answer = self.asked(line(p))
+        if answer[0] == "ok" and int(answer[-1]) > self.balance:
+            return
         answer = self.say(line(p))
         if answer[0] == "ok":
             *_, epoch, index, _, fall = map(int, answer[1:])
@@ -272,18 +300,21 @@ class Stakers(Changes):
 
     def busy(self):
         does = [(30, self.stake_more), (16, self.unstake), (12, self.slash_one), (4, self.new_fee_for_all), (7, self.set_account), (6, self.any_change),
-                (6, self.beyond), (2, lambda: self.say(f"forecast {self.last() + 1} 10000 {self.balance} 1 " + message(self.time(self.last() + 1), []).hex()))]
+                (6, self.beyond), (4, self.withdraw),
+                (2, lambda: self.say(f"forecast {self.last() + 1} 10000 {self.balance} 1 " + message(self.time(self.last() + 1), []).hex()))]
         weights, does = zip(*does)
         self.r.choices(does, weights)[0]()
 
-    def staking_list(self, rounds=None):
+    def staking_list(self, rounds=None, withdraws=None):
+        """Of so many rounds, with withdrawals or without; both at random unless given."""
         if not 10_000 < self.most_now:
             return self.change_list()
-        self.begin_list()
+        self.begin_list(withdraws)
         most = (2, 5) if len(self.site.words) > 1_000 else (6, 40)
         for _ in range(rounds or self.r.randrange(*most)):
             for _ in range(self.r.randrange(3, 12)):
                 self.busy()
             self.pass_epochs()
+            self.withdraw(.2)
             self.settle()
         self.journal.comment(END)

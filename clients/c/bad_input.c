@@ -40,6 +40,9 @@ struct input {
     uint64_t answer[8];
 };
 
+/* R of the good advance: 1 % of 1,000,000 and 500,000 of A's two sides and of B's cap of 500. */
+#define REWARDS ((uint64_t)15005)
+
 static const uint64_t ZERO[4], A[4] = {1, 2, 3, 4}, B[4] = {2, 0, 0, 0}, C[4] = {3, 0, 0, 0}, OWN_KEY[4] = {4, 0, 0, 0}, STAKER[4] = {5, 0, 0, 0};
 static const uint64_t OWNER[4] = {6, 0, 0, 0}, AUTHORITY[4] = {7, 0, 0, 0}, NEW[4] = {8, 0, 0, 0};
 
@@ -191,9 +194,9 @@ static uint64_t advance_fault(struct input *in, int k) {
     case 23: in->pool[OWN] = HALF - 1, in->pool[OWN + 1] = 1; return 13;
     case 24: in->pool[OTHERS] = in->pool[OWN] = in->pool[OTHERS + 2] = HALF - 1, set_row(in, 0, A, MAX), set_row(in, 1, B, MAX); return 13;
     case 25: in->pool[COUNT] = HALF - 1; return 13;
-    case 26: in->pool[1] = MAX; return 13;
-    case 27: in->custody = 49999; return 14;
-    case 28: in->custody = 0; return 14;
+    /* R and claimable together; claimable is above custody, here and with all faults before, then under it. */
+    case 26: in->pool[1] = MAX - REWARDS + 1, in->custody = 0; return 13;
+    case 27: in->pool[1] = MAX - REWARDS + 1, in->custody = MAX; return 13;
     default: return 0;
     }
 }
@@ -455,6 +458,38 @@ static void states(void) {
     }
 }
 
+/* Forecast and advance with custody below claimable: nothing is set aside, while the event is written with a y of 0, and totals roll. In the last two R
+ * and claimable come to 2^64 - 1, and in the last custody covers them. A change to come of 7 goes above B's cap, so R is as in the good advance. */
+static void drained(void) {
+    static const struct {
+        uint64_t claimable, custody, y, set_aside;
+    } cases[] = {
+        {50000, 49999, 0, 0},
+        {50000, 0, 0, 0},
+        {MAX - REWARDS, 0, 0, 0},
+        {MAX - REWARDS, MAX, 10000, REWARDS},
+    };
+    static uint64_t words[WORDS];
+    for (size_t i = 0; i < LEN(cases); i++) {
+        const uint64_t y = cases[i].y, set_aside = cases[i].set_aside, answer[5] = {y, set_aside, 2, 0, 0};
+        const uint64_t event[EVENT] = {20, y, 0, 0, 0, 0, 0, 0, 0, 1000000, 1000000, 0, 0, 500000, 0};
+        good(ADVANCE, &in), in.pool[1] = cases[i].claimable, in.custody = cases[i].custody, in.pool[OTHERS + 3] = 7;
+        memcpy(words, in.pool, sizeof words);
+        words[0] = 21, words[1] += set_aside, words[OTHERS + 2] = 1007, words[OTHERS + 3] = 0, words[COUNT] = 3;
+        memcpy(words + EVENTS + 2 * EVENT, event, sizeof event);
+        limit(FORECAST, "custody and claimable");
+        if (in.answer[0] != set_aside) {
+            printf("custody and claimable %u: forecast %" PRIu64 " and not %" PRIu64 "\n", (unsigned)i, in.answer[0], set_aside);
+            exit(1);
+        }
+        limit(ADVANCE, "custody and claimable");
+        if (memcmp(in.answer, answer, sizeof answer) != 0 || memcmp(in.pool, words, sizeof words) != 0) {
+            printf("custody and claimable %u: advance %" PRIu64 " %" PRIu64 ", or another pool\n", (unsigned)i, in.answer[0], in.answer[1]);
+            exit(1);
+        }
+    }
+}
+
 /* Input at the limits. */
 static void limits(void) {
     static uint64_t full[POOL_MIRROR_IMAGE_LEN(1024, 52)];
@@ -503,6 +538,7 @@ int main(void) {
         tried += refusals((enum function)f);
     }
     limits();
+    drained();
     states();
     printf("at the limits       %3u accepted\n", accepted);
     printf("bad_input: 11 functions, %u refusals, every word as it was\n", tried);

@@ -7,7 +7,7 @@
 #include <stdlib.h>
 #include <string.h>
 
-enum { P = 4, E = 4, LEN = POOL_MIRROR_IMAGE_LEN(P, E), Y = 10000, EPOCH_SECONDS = 604800, UNLOCKING = 1, MAX_ROWS = 3, MAX_POSITIONS = 2 };
+enum { P = 4, E = 4, LEN = POOL_MIRROR_IMAGE_LEN(P, E), Y = 10000, EPOCH_SECONDS = 604800, UNLOCKING = 1, MAX_ROWS = 3, MAX_POSITIONS = 3 };
 
 /* A publisher or an account: its name in the book, its 32 bytes, and these as the four words of a key. */
 struct named {
@@ -24,6 +24,8 @@ struct positions {
 struct book {
     uint64_t pool[LEN];
     uint64_t now, custody, set_aside, paid;
+    /* What moved custody, which starts at 0; fallen is the sum of the falls that payments answered. */
+    uint64_t deposited, withdrawn, fallen;
     unsigned entries;
     char call[40], answer[48];
 };
@@ -63,11 +65,12 @@ static void accepted(const struct book *b, uint64_t number) {
     }
 }
 
-/* One line of the book. What the pool owes is what was set aside less what was paid, and custody covers it. */
+/* One line of the book. What the pool owes is what was set aside less what was paid, and custody covers it as long as nothing was withdrawn. */
 static void entry(struct book *b) {
-    uint64_t claimable = b->pool[1];
+    uint64_t claimable = b->pool[1], gone = b->withdrawn + b->fallen;
     check(b, b->paid <= b->set_aside && claimable == b->set_aside - b->paid, "claimable is not what was set aside less what was paid");
-    check(b, claimable <= b->custody, "claimable is above custody");
+    check(b, claimable <= b->custody || b->withdrawn > 0, "claimable is above custody, and nothing was withdrawn");
+    check(b, gone <= b->deposited && b->custody == b->deposited - gone, "custody is not what came in less what went out");
     printf("%5" PRIu64 "  %-30s  %-40s %8" PRIu64 " %10" PRIu64 " %8" PRIu64 " %10" PRIu64 "\n", b->now, b->call, b->answer, b->custody,
            b->set_aside, b->paid, claimable);
     b->entries++;
@@ -121,19 +124,37 @@ static int changes_to_come(const struct book *b) {
     return any != 0;
 }
 
+/* What the token side does with a withdrawal or a payment: it refuses one that would lower custody by more than it holds. */
+static int lowered(struct book *b, uint64_t by) {
+    if (by > b->custody) {
+        return 0;
+    }
+    b->custody -= by;
+    return 1;
+}
+
 static void deposit(struct book *b, uint64_t amount) {
-    b->custody += amount;
     CALL("deposit " N, amount);
+    b->custody += amount;
+    b->deposited += amount;
     plain(b, 0);
 }
 
+static void withdraw(struct book *b, uint64_t amount) {
+    int made = lowered(b, amount);
+    CALL("withdraw " N, amount);
+    b->withdrawn += made ? amount : 0;
+    ANSWER("%s", made ? "-" : "not made");
+    entry(b);
+}
+
 /* A forecast, then the advance. The forecast takes every passed epoch at the totals with their changes, the advance the first one without: the two
- * agree where no change is to come. */
+ * agree where no change is to come, and where custody is below claimable, since nothing is set aside then. */
 static void advance(struct book *b, uint64_t now, const struct named *publishers, const uint64_t *caps, size_t rows) {
     uint8_t message[POOL_MIRROR_CAPS_LEN(MAX_ROWS)];
     size_t len = caps_message(message, now, publishers, caps, rows);
     int changes = changes_to_come(b);
-    uint64_t said[1], done[5], again;
+    uint64_t before = b->pool[1], said[1], done[5], again;
     b->now = now;
     CALL("forecast");
     accepted(b, pool_mirror_forecast(b->pool, LEN, P, E, now, Y, b->custody, 1, message, len, EPOCH_SECONDS, said));
@@ -141,7 +162,8 @@ static void advance(struct book *b, uint64_t now, const struct named *publishers
     entry(b);
     CALL("advance");
     accepted(b, pool_mirror_advance(b->pool, LEN, P, E, now, Y, b->custody, 1, message, len, EPOCH_SECONDS, done));
-    check(b, changes || said[0] == done[1], "the forecast said another amount");
+    check(b, said[0] == done[1] || (changes && before <= b->custody), "the forecast said another amount");
+    check(b, b->pool[1] <= b->custody || b->pool[1] <= before, "claimable is above custody, and above what it was");
     b->set_aside += done[1];
     ANSWER("y " N ", set aside " N ", rows " N " " N " " N, done[0], done[1], done[2], done[3], done[4]);
     entry(b);
@@ -149,17 +171,27 @@ static void advance(struct book *b, uint64_t now, const struct named *publishers
     check(b, again == POOL_MIRROR_POOL_DATA_ALREADY_UP_TO_DATE, "a second advance in the epoch is not refused with 8");
 }
 
-/* `own` is the publisher's stake account, NULL where it has none. */
+/* `own` is the publisher's stake account, NULL where it has none. Pool and record are copied before the call: they stay as they were where the token
+ * side refuses what is to be moved. */
 static void payment(struct book *b, const struct named *publisher, const struct named *own, const struct named *account, uint64_t record[2],
                     const struct positions *list) {
-    uint64_t paid[4];
+    uint64_t pool[LEN], next[2], paid[4];
+    memcpy(pool, b->pool, sizeof pool);
+    memcpy(next, record, sizeof next);
     CALL("payment %s %s", publisher->name, account->name);
-    accepted(b, pool_mirror_payment(b->pool, LEN, P, E, b->now, publisher->key, account->key, record, own != NULL, own ? own->key : NONE,
-                                    own != NULL, list->words, list->len, UNLOCKING, paid));
-    check(b, record[0] == b->now, "the record is not in the current epoch");
-    b->paid += paid[0] + paid[1];
-    b->custody -= paid[2];
-    ANSWER(N " + " N ", custody -" N ", reads " N, paid[0], paid[1], paid[2], paid[3]);
+    accepted(b, pool_mirror_payment(pool, LEN, P, E, b->now, publisher->key, account->key, next, own != NULL, own ? own->key : NONE, own != NULL,
+                                    list->words, list->len, UNLOCKING, paid));
+    check(b, next[0] == b->now, "the record is not in the current epoch");
+    /* The tokens that leave custody; that the answer says the same is checked in the entry. */
+    if (lowered(b, paid[0] + (own != NULL ? paid[1] : 0))) {
+        memcpy(b->pool, pool, sizeof pool);
+        memcpy(record, next, sizeof next);
+        b->paid += paid[0] + paid[1];
+        b->fallen += paid[2];
+        ANSWER(N " + " N ", custody -" N ", reads " N, paid[0], paid[1], paid[2], paid[3]);
+    } else {
+        ANSWER("not made: custody -" N, paid[2]);
+    }
     entry(b);
 }
 
@@ -274,7 +306,8 @@ int main(void) {
     slash(&book, a, &sam, sam_a, 50000, 0);
     slash(&book, a, &eve, eve_a, 20000, 10000);
     slash(&book, a, &own, own_a, 40000, 0);
-    sams.len = eves.len = 0;
+    owns.len = sams.len = eves.len = 0;
+    position(&owns, a, 360000, 101, 0);
     position(&sams, a, 450000, 101, 0);
     position(&sams, b, 200000, 101, 0);
     position(&eves, a, 180000, 101, 0);
@@ -288,7 +321,28 @@ int main(void) {
     advance(&book, 106, p, caps, 3);
     payment(&book, a, &own, &eve, eve_a, &eves);
     take(&book, a, &eve, 90000, eves.words + POOL_MIRROR_POSITION_LEN);
+    eves.len = 0;
+    position(&eves, a, 180000, 101, 0);
+
+    /* The sponsor withdraws, which leaves less than claimable. Epoch 106 passes, and earns nothing. */
+    add(&book, b, &sam, 100000);
+    position(&sams, b, 100000, 107, 0);
+    withdraw(&book, 42805);
+    withdraw(&book, 39604);
+    advance(&book, 107, p, caps, 3);
+    payment(&book, a, &own, &own, own_a, &owns);
+    payment(&book, a, &own, &eve, eve_a, &eves);
+    payment(&book, b, NULL, &sam, sam_b, &sams);
+
+    /* Custody is filled again: epoch 107 earns as ever, and what waited is paid. */
+    deposit(&book, 50000);
+    advance(&book, 108, p, caps, 3);
+    payment(&book, a, &own, &own, own_a, &owns);
+    payment(&book, a, &own, &sam, sam_a, &sams);
+    payment(&book, a, &own, &eve, eve_a, &eves);
+    payment(&book, b, NULL, &sam, sam_b, &sams);
     seats(&book, p, 3);
+    printf("\ncustody: deposited " N ", withdrawn " N ", payments " N "\n", book.deposited, book.withdrawn, book.fallen);
     printf("\nledger: %u entries, every check held\n", book.entries);
     return 0;
 }

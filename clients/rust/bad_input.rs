@@ -34,6 +34,9 @@ const EVENT: usize = 9 + 3 * P;
 const COUNT: usize = EVENTS + E * EVENT;
 const SLASHES: usize = COUNT + 1;
 
+/// R of the good advance: 1 % of 1,000,000 and 500,000 of A's two sides and of B's cap of 500.
+const REWARDS: u64 = 15_005;
+
 const ZERO: Key = [0; 4];
 const A: Key = [1, 2, 3, 4];
 const B: Key = [2, 0, 0, 0];
@@ -285,9 +288,9 @@ fn advance_fault(i: &mut Input, k: usize) -> u64 {
         23 => { i.pool[OWN] = HALF - 1; i.pool[OWN + 1] = 1; 13 }
         24 => { i.pool[OTHERS] = HALF - 1; i.pool[OWN] = HALF - 1; i.pool[OTHERS + 2] = HALF - 1; i.set_row(0, A, MAX); i.set_row(1, B, MAX); 13 }
         25 => { i.pool[COUNT] = HALF - 1; 13 }
-        26 => { i.pool[1] = MAX; 13 }
-        27 => { i.custody = 49_999; 14 }
-        28 => { i.custody = 0; 14 }
+        // R and claimable together; claimable is above custody, here and with all faults before, then under it.
+        26 => { i.pool[1] = MAX - REWARDS + 1; i.custody = 0; 13 }
+        27 => { i.pool[1] = MAX - REWARDS + 1; i.custody = MAX; 13 }
         _ => 0,
     }
 }
@@ -563,6 +566,37 @@ fn states() -> usize {
     cases.len()
 }
 
+/// Forecast and advance with custody below claimable: nothing is set aside, while the event is written with a y of 0, and totals roll. In the last two R
+/// and claimable come to 2^64 - 1, and in the last custody covers them. A change to come of 7 goes above B's cap, so R is as in the good advance. Answers
+/// how many calls were accepted.
+fn drained() -> usize {
+    // Claimable, custody, y', set aside.
+    let cases = [
+        [50_000, 49_999, 0, 0],
+        [50_000, 0, 0, 0],
+        [MAX - REWARDS, 0, 0, 0],
+        [MAX - REWARDS, MAX, 10_000, REWARDS],
+    ];
+    for [claimable, custody, y, set_aside] in cases {
+        let mut i = good(ADVANCE);
+        (i.pool[1], i.custody, i.pool[OTHERS + 3]) = (claimable, custody, 7);
+        for f in [FORECAST, ADVANCE] {
+            expect(f, i.clone(), "custody and claimable", 0);
+        }
+        let mut words = i.pool.clone();
+        (words[0], words[1], words[OTHERS + 2], words[OTHERS + 3], words[COUNT]) = (21, claimable + set_aside, 1_007, 0, 3);
+        let event = [20, y, 0, 0, 0, 0, 0, 0, 0, 1_000_000, 1_000_000, 0, 0, 500_000, 0];
+        words[EVENTS + 2 * EVENT..EVENTS + 3 * EVENT].copy_from_slice(&event);
+        let given = Given { current_epoch: 21, y: 10_000, custody, verified: 1, caps: &i.caps[..i.caps_len], epoch_duration: 604_800 };
+        let mut pool = Pool { words: &mut i.pool[..i.pool_len], p: P, e: E };
+        let (said, done) = (pool.forecast(given), pool.advance(given));
+        if said != Ok([set_aside]) || done != Ok([y, set_aside, 2, 0, 0]) || i.pool != words {
+            fail(format!("custody {custody}, claimable {claimable}: forecast {said:?}, advance {done:?}, or another pool"));
+        }
+    }
+    2 * cases.len()
+}
+
 /// Input at the limits: how many were accepted.
 fn limits() -> usize {
     let mut accepted = 0;
@@ -618,6 +652,6 @@ fn limits() -> usize {
 
 fn main() {
     let tried: usize = (0..NAMES.len()).map(refusals).sum();
-    println!("{:<19} {:3} accepted", "at the limits", limits() + states());
+    println!("{:<19} {:3} accepted", "at the limits", limits() + drained() + states());
     println!("bad_input: 11 functions, {tried} refusals, every word as it was");
 }

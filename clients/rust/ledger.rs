@@ -23,6 +23,10 @@ struct Book {
     custody: u64,
     set_aside: u64,
     paid: u64,
+    // What moved custody, which starts at 0; fallen is the sum of the falls that payments answered.
+    deposited: u64,
+    withdrawn: u64,
+    fallen: u64,
     entries: u32,
     call: String,
 }
@@ -75,11 +79,13 @@ impl Book {
         answer.unwrap_or_else(|number| self.fail(&format!("refused {number}")))
     }
 
-    /// One line of the book. What the pool owes is what was set aside less what was paid, and custody covers it.
+    /// One line of the book. What the pool owes is what was set aside less what was paid, and custody covers it as long as nothing was withdrawn.
     fn entry(&mut self, answer: &str) {
         let claimable = self.words[1];
+        let left = self.deposited.checked_sub(self.withdrawn + self.fallen);
         self.check(self.set_aside.checked_sub(self.paid) == Some(claimable), "claimable is not what was set aside less what was paid");
-        self.check(claimable <= self.custody, "claimable is above custody");
+        self.check(claimable <= self.custody || self.withdrawn > 0, "claimable is above custody, and nothing was withdrawn");
+        self.check(left == Some(self.custody), "custody is not what came in less what went out");
         println!(
             "{:5}  {:<30}  {:<40} {:8} {:10} {:8} {:10}",
             self.now, self.call, answer, self.custody, self.set_aside, self.paid, claimable
@@ -98,18 +104,33 @@ impl Book {
         (0..P).any(|s| self.words[2 + 4 * P + 2 * s + 1] != 0 || self.words[2 + 6 * P + 2 * s + 1] != 0)
     }
 
+    /// What the token side does with a withdrawal or a payment: it refuses one that would lower custody by more than it holds.
+    fn lowered(&mut self, by: u64) -> bool {
+        let left = self.custody.checked_sub(by);
+        self.custody = left.unwrap_or(self.custody);
+        left.is_some()
+    }
+
     fn deposit(&mut self, amount: u64) {
-        self.custody += amount;
         self.call = format!("deposit {amount}");
+        self.custody += amount;
+        self.deposited += amount;
         self.plain(Ok(()));
     }
 
+    fn withdraw(&mut self, amount: u64) {
+        let made = self.lowered(amount);
+        self.call = format!("withdraw {amount}");
+        self.withdrawn += if made { amount } else { 0 };
+        self.entry(if made { "-" } else { "not made" });
+    }
+
     /// A forecast, then the advance. The forecast takes every passed epoch at the totals with their changes, the advance the first one without: the
-    /// two agree where no change is to come.
+    /// two agree where no change is to come, and where custody is below claimable, since nothing is set aside then.
     fn advance(&mut self, now: u64, publishers: &[Named], caps: &[u64]) {
         let message = caps_message(now, publishers, caps);
         let given = Given { current_epoch: now, y: Y, custody: self.custody, verified: 1, caps: &message, epoch_duration: EPOCH_SECONDS };
-        let changes = self.changes_to_come();
+        let (changes, before) = (self.changes_to_come(), self.words[1]);
         self.now = now;
         self.call = "forecast".to_string();
         let said = self.pool().forecast(given);
@@ -118,23 +139,34 @@ impl Book {
         self.call = "advance".to_string();
         let done = self.pool().advance(given);
         let done = self.accepted(done);
-        self.check(changes || said[0] == done[1], "the forecast said another amount");
+        let claimable = self.words[1];
+        self.check(said[0] == done[1] || (changes && before <= self.custody), "the forecast said another amount");
+        self.check(claimable <= self.custody || claimable <= before, "claimable is above custody, and above what it was");
         self.set_aside += done[1];
         self.entry(&format!("y {}, set aside {}, rows {} {} {}", done[0], done[1], done[2], done[3], done[4]));
         let again = self.pool().advance(given);
         self.check(again == Err(8), "a second advance in the epoch is not refused with 8");
     }
 
-    /// `own` is the publisher's stake account, if it has one.
+    /// `own` is the publisher's stake account, if it has one. Pool and record are copied before the call: they stay as they were where the token side
+    /// refuses what is to be moved.
     fn payment(&mut self, publisher: &Named, own: Option<&Named>, account: &Named, record: &mut [u64; 2], positions: &[[u64; 9]]) {
         let (now, key, flag) = (self.now, own.map(|own| &own.key), own.is_some().into());
         self.call = format!("payment {} {}", publisher.name, account.name);
-        let paid = self.pool().payment(now, &publisher.key, &account.key, record, key, flag, positions.as_flattened(), UNLOCKING);
+        let (mut words, mut next) = (self.words.clone(), *record);
+        let mut pool = Pool { words: &mut words, p: P, e: E };
+        let paid = pool.payment(now, &publisher.key, &account.key, &mut next, key, flag, positions.as_flattened(), UNLOCKING);
         let paid = self.accepted(paid);
-        self.check(record[0] == now, "the record is not in the current epoch");
-        self.paid += paid[0] + paid[1];
-        self.custody -= paid[2];
-        self.entry(&format!("{} + {}, custody -{}, reads {}", paid[0], paid[1], paid[2], paid[3]));
+        self.check(next[0] == now, "the record is not in the current epoch");
+        // The tokens that leave custody; that the answer says the same is checked in the entry.
+        if self.lowered(paid[0] + if own.is_some() { paid[1] } else { 0 }) {
+            (self.words, *record) = (words, next);
+            self.paid += paid[0] + paid[1];
+            self.fallen += paid[2];
+            self.entry(&format!("{} + {}, custody -{}, reads {}", paid[0], paid[1], paid[2], paid[3]));
+        } else {
+            self.entry(&format!("not made: custody -{}", paid[2]));
+        }
     }
 
     fn add(&mut self, publisher: &Named, account: &Named, amount: u64) {
@@ -218,8 +250,18 @@ fn main() {
     let [a, b, _] = &p;
     let caps = [1_000_000, 300_000, 100_000];
     let (mut own_a, mut sam_a, mut sam_b, mut eve_a) = ([0, 0], [0, 0], [0, 0], [0, 0]);
-    let mut book =
-        Book { words: vec![0; image_len(P, E)], now: 0, custody: 0, set_aside: 0, paid: 0, entries: 0, call: String::new() };
+    let mut book = Book {
+        words: vec![0; image_len(P, E)],
+        now: 0,
+        custody: 0,
+        set_aside: 0,
+        paid: 0,
+        deposited: 0,
+        withdrawn: 0,
+        fallen: 0,
+        entries: 0,
+        call: String::new(),
+    };
 
     println!("{:>5}  {:<30}  {:<40} {:>8} {:>10} {:>8} {:>10}", "epoch", "call", "answer", "custody", "set aside", "paid", "claimable");
     book.fresh(100);
@@ -253,6 +295,7 @@ fn main() {
     book.slash(a, &sam, &mut sam_a, 50_000, 0);
     book.slash(a, &eve, &mut eve_a, 20_000, 10_000);
     book.slash(a, &own, &mut own_a, 40_000, 0);
+    let owns = [position(a, 360_000, 101, 0)];
     let sams = [position(a, 450_000, 101, 0), position(b, 200_000, 101, 0)];
     let eves = [position(a, 180_000, 101, 0), position(a, 90_000, 101, 105)];
     book.deposit(50_000);
@@ -264,6 +307,26 @@ fn main() {
     book.advance(106, &p, &caps);
     book.payment(a, Some(&own), &eve, &mut eve_a, &eves);
     book.remove(a, &eve, 90_000, &eves[1]);
+    let eves = [eves[0]];
+
+    // The sponsor withdraws, which leaves less than claimable. Epoch 106 passes, and earns nothing.
+    book.add(b, &sam, 100_000);
+    let sams = [sams[0], sams[1], position(b, 100_000, 107, 0)];
+    book.withdraw(42_805);
+    book.withdraw(39_604);
+    book.advance(107, &p, &caps);
+    book.payment(a, Some(&own), &own, &mut own_a, &owns);
+    book.payment(a, Some(&own), &eve, &mut eve_a, &eves);
+    book.payment(b, None, &sam, &mut sam_b, &sams);
+
+    // Custody is filled again: epoch 107 earns as ever, and what waited is paid.
+    book.deposit(50_000);
+    book.advance(108, &p, &caps);
+    book.payment(a, Some(&own), &own, &mut own_a, &owns);
+    book.payment(a, Some(&own), &sam, &mut sam_a, &sams);
+    book.payment(a, Some(&own), &eve, &mut eve_a, &eves);
+    book.payment(b, None, &sam, &mut sam_b, &sams);
     book.seats(&p);
+    println!("\ncustody: deposited {}, withdrawn {}, payments {}", book.deposited, book.withdrawn, book.fallen);
     println!("\nledger: {} entries, every check held", book.entries);
 }

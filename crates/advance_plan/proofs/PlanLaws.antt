@@ -91,15 +91,15 @@ module _ (P : ℕ) (w : Words) (m : List ℕ) (g : Given) where
 module _ (n passed claimable : ℕ) (g : Given) where
   -- an accepted one has a count that fits, and an amount that fits on top of claimable
   adjust_says : (r : Option ℕ) (a : Adjustment) → adjust_fit r n passed claimable g ≡ accepted a
-      → (n + passed < half) × (claimable + a.set_aside ≤ g.pool_reward_custody_balance)
+      → (n + passed < half) × (claimable + a.set_aside < word)
   unfolding adjust_fit
   adjust_says None a e = let z : ◌≡◌ {A = ℕ} 0 1 = cc in absurd (omega arith)
   adjust_says (Some sum) a e = go (leb half (n + passed)) refl e
     where
       go : (b : Bool) → leb half (n + passed) ≡ b → (if b then refused does_not_fit else adjust_of sum g.y claimable g.pool_reward_custody_balance) ≡ accepted a
-          → (n + passed < half) × (claimable + a.set_aside ≤ g.pool_reward_custody_balance)
+          → (n + passed < half) × (claimable + a.set_aside < word)
       go true q h = let z : ◌≡◌ {A = ℕ} 0 1 = cc in absurd (omega arith)
-      go false q h = (leb-false half (n + passed) q, (adjust_keeps sum g.y claimable g.pool_reward_custody_balance a h).covered)
+      go false q h = (leb-false half (n + passed) q, (adjust_keeps sum g.y claimable g.pool_reward_custody_balance a h).fits)
 
 -- ---- sums over the passed epochs
 
@@ -234,10 +234,10 @@ module _ (every_rolled : Bool) (P : ℕ) (w : Words) (m : List ℕ) (g : Given) 
 
             pub all_worked : {Q : ℕ} (t : SeatTable Q) (plan : AdvancePlan) → Tabled w (λ (s : ℕ). get_or caps s 0) seats t → seats ≤ Q → plan.seats ≡ seats
                 → plan.marks.words ≡ marks
-                → accepted (planned_as plan) ≡ adjust_fit r n passed claimable g → g.pool_reward_custody_balance < word
+                → accepted (planned_as plan) ≡ adjust_fit r n passed claimable g
                 → Worked P w m plan t g.current_epoch
             unfolding ratio_in
-            all_worked t plan tb room ep em ea small =
+            all_worked t plan tb room ep em ea =
                 let x = adjust_says (w (head num_events)) passed (w (head claimable_rewards)) g r (planned_as plan) (sym (ea ∙ adjust_read)) in
                 record {
                   seats_is = ep ∙ es;

@@ -108,7 +108,7 @@ events_after E w cap seats y (suc k) f = event_written E w cap seats y k f (even
 abbrev pub passed_of : Words → Given → ℕ
 passed_of w g = g.current_epoch - w (head last_updated_epoch)
 
--- y' and the amount set aside, or refusals 7, 8, 13 for a negative time, 9, other 13, 14, in this order. The sum of eligible amounts is given.
+-- y' and the amount set aside, or refusals 7, 8, 13 for a negative time, 9, other 13, in this order. The sum of eligible amounts is given.
 unfoldable pub adjustment_of : (P : ℕ) → Words → List ℕ → Given → (sum : ℕ) → Outcome Adjustment
 adjustment_of P w m g sum =
     if not (g.is_verified == 1) then refused unverified_publisher_caps

@@ -50,7 +50,7 @@ fn adjust(
 }
 
 // Pool, message and inputs come together in five functions, with `Ready`: a struct of them would have to be made anew where the pool is written.
-// y' and the amount set aside, or refusals 7, 8, 13 for a negative time, 9, other 13, 14; each seat's cap, ratios and fee go to the table.
+// y' and the amount set aside, or refusals 7, 8, 13 for a negative time, 9, other 13; each seat's cap, ratios and fee go to the table.
 // `every_rolled` is the forecast's reading: every passed epoch at the rolled totals. A `bool`, as the definition
 // `sum_of` takes it: the readings differ in one number, the first epoch's sum, so an enum would be a second name for them.
 #[tactic(auto, using(crate::proofs::PlanLaws::plans, image::proofs::SeatLaws::seats_le))]

@@ -1,4 +1,4 @@
-// Item 5: the y of an advance, lowered where custody does not cover the rewards.
+// Item 5: the y of an advance, lowered where custody does not cover the rewards, 0 where it is below claimable ([8]).
 ghost use Rattle.std.specs.Prelude.{◌≡◌, ◌<◌};
 ghost use Rattle.types.specs.Base.{outcome_by};
 ghost use Rattle.event.specs.Adjust.{rewards_of, adjust_of, lowered_by, adjusted_as};
@@ -49,7 +49,10 @@ pub fn adjust_rewards_if_needed(
         });
     }
     if custody < claimable {
-        return Err(Refusal::ClaimableOverCustody);
+        return Ok(Adjusted {
+            y: Ratio(0),
+            set_aside: Amount(0),
+        });
     }
     Ok(lowered(t, y.0, custody - claimable, r))
 }

@@ -1,4 +1,4 @@
-// Document 01's table 'Turned back', row by row.
+// Document 01's table 'Turned back', row by row; that of 14 is none any more (document 02, [8]).
 use crate::calls::Row;
 use crate::given::{
     ACCOUNT, NEW, OLD, OWNER, PUBLISHER, RIGHT, THIRD, ZERO, accounts, claim, delegation, earning,
@@ -99,14 +99,14 @@ pub fn publishers(to: Stdout) -> io::Result<()> {
     Row::new(to, "refusal 12, last 9, now 10", pool).in_epoch(PUBLISHER, 10)
 }
 
-// 13 and 14.
+// 13, and 14's row, which is accepted.
 pub fn sums(to: Stdout) -> io::Result<()> {
     Row::new(to, "refusal 13, total 5, change -6", staked(5, -6)).in_time(RIGHT)?;
     let short = Given {
         pool_reward_custody_balance: 6,
         ..RIGHT
     };
-    Row::new(to, "refusal 14, 7 over 6", seated()).in_time(short)
+    Row::new(to, "custody drained, 7 over 6", seated()).in_time(short)
 }
 
 // 15 to 18.

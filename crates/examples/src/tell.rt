@@ -24,6 +24,6 @@ pub fn change(before: &Image, after: &Image) -> &'static str {
     if same(before, after) {
         "unchanged"
     } else {
-        "CHANGED"
+        "changed"
     }
 }

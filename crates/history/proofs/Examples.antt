@@ -1,26 +1,29 @@
 -- A worked list of calls at P 1 and E 2, by computing, its figures worked out by hand: what is set aside, paid, drawn and written. Assumes nothing.
 use mathlib.Core.Path.{◌≡◌, refl}
-use mathlib.Core.Bool.{true, false}
+use mathlib.Core.Bool.{Bool, true, false}
 use mathlib.Core.List.{List, [], ◌∷◌, ◌++◌}
-use Prim.Native.Nat.{ℕ, ◌≤◌, ◌+◌, ◌-◌}
+use Prim.Native.Nat.{ℕ, ◌≤◌}
 use native.Mathlib.Omega.{arith}
 use lib.ListN.{replicate}
 use Rattle.types.specs.Base.{refused}
 use Rattle.types.specs.Refusals.{payment_above_claimable}
 use Rattle.positions.specs.declared.Key.{Key}
 use Rattle.std.specs.Prelude.{None}
-use Rattle.image.specs.Layout.{self, other, claimable_rewards, num_events, event_epoch, head, slot, read, image}
+use Rattle.image.specs.Layout.{self, other, claimable_rewards, num_events, event_epoch, event_y, reward_ratio, head, slot, share, read}
+use Rattle.advance_plan.specs.declared.Given.{Given}
 use Rattle.pool.specs.declared.changes.Delegation.{Delegation}
 use Rattle.integrity_pool.specs.declared.payment.Claim.{Claim}
 use Rattle.integrity_pool.specs.Payment.{payment_call}
 use Rattle.integrity_pool.proofs.Computing.{advances, payments, changes}
-use Rattle.history.specs.Demand.{Backed, WithinTotals}
-use Rattle.history.specs.Calls.{Call, advance, payment, add, deposit, State, start, advance_history, newest_passed, matching_in, draws, payment_history, advance_step, payment_step, change_step, deposit_step, step, run}
+use Rattle.history.specs.Demand.{Bounded, Backed, WithinTotals}
+use Rattle.history.specs.Calls.{Call, advance, payment, add, deposit, withdraw, State, start, advance_history, newest_passed, matching_in, draws}
+use Rattle.history.specs.Calls.{payment_history, advance_step, payment_step, change_step, deposit_step, withdraw_step, step, run, lowers}
+use Rattle.history.specs.Calls.{custody_suffices, NoWithdrawal}
 
 -- ---- what the list computes with
 
 computing : Unit {0}
-unfolding advances payments changes advance_history newest_passed matching_in draws payment_history advance_step payment_step change_step deposit_step step run
+unfolding advances payments changes advance_history newest_passed matching_in draws payment_history advance_step payment_step change_step deposit_step withdraw_step step run lowers custody_suffices
 computing = tt
 
 -- ---- the list
@@ -32,8 +35,11 @@ key a = record { 0 = a; 1 = 0; 2 = 0; 3 = 0 }
 abbrev caps_of : (epoch : ℕ) → List ℕ
 caps_of epoch = replicate 8 0 ++ (epoch ∷ 0 ∷ 1 ∷ 1 ∷ []) ++ replicate 38 0 ++ (200 ∷ [])
 
+abbrev given_to : (epoch : ℕ) → Given
+given_to epoch = record { current_epoch = epoch; y = 10_000; pool_reward_custody_balance = 0; epoch_duration = 1; is_verified = 1 }
+
 abbrev advance_to : (epoch : ℕ) → Call
-advance_to epoch = advance (caps_of epoch) (record { current_epoch = epoch; y = 10_000; pool_reward_custody_balance = 0; epoch_duration = 1; is_verified = 1 })
+advance_to epoch = advance (caps_of epoch) (given_to epoch)
 
 -- the staker's account, and a position of this amount in the publisher, LOCKED from epoch 11 on
 abbrev staker : Delegation
@@ -126,12 +132,74 @@ not_within t =
 
 -- ---- all of custody may be claimable: epoch 11 alone, and no deposit
 
-abbrev drained : State
-drained = after (advance_to 10 ∷ add staker 150 ∷ advance_to 11 ∷ advance_to 12 ∷ [])
+abbrev full : List Call
+full = advance_to 10 ∷ add staker 150 ∷ advance_to 11 ∷ advance_to 12 ∷ []
 
-pub all_claimable : (read 1 2 drained.image (head claimable_rewards) ≡ 1) × (drained.custody ≡ 1)
+pub all_claimable : (read 1 2 (after full).image (head claimable_rewards) ≡ 1) × ((after full).custody ≡ 1)
 unfolding computing
 all_claimable = (refl, refl)
 
-pub all_backed : Backed (read 1 2 drained.image) drained.custody
+pub all_backed : Backed (read 1 2 (after full).image) (after full).custody
 all_backed = let c = all_claimable.0 in let d = all_claimable.1 in record { claimable = omega arith; word = omega arith }
+
+-- ---- [8] the sponsor withdraws all of it; the advances to 13 and 14 pass epochs 12 and 13 on a drained custody
+
+abbrev suffices : List Call → Bool
+suffices calls = custody_suffices 1 2 9 (start 1 2 (replicate 41 0) 10 1) calls
+
+abbrev emptied : List Call
+emptied = full ++ (withdraw 1 ∷ advance_to 13 ∷ advance_to 14 ∷ [])
+
+abbrev drained : State
+drained = after emptied
+
+-- custody suffices for such a list; not for a unit more withdrawn, nor for a payment from the drained custody
+pub drained_suffices : (suffices emptied ≡ true)
+    × ((suffices (full ++ (withdraw 2 ∷ [])) ≡ false) × (suffices (full ++ (withdraw 1 ∷ payment (locked 150) (claim 12) ∷ [])) ≡ false))
+unfolding computing
+drained_suffices = (refl, (refl, refl))
+
+-- nothing more is set aside, and claimable is above custody: the bound by custody alone fails where something was withdrawn
+pub drained_aside : (drained.history.set_aside ≡ 1) × ((read 1 2 drained.image (head claimable_rewards) ≡ 1) × (drained.custody ≡ 0))
+unfolding computing
+drained_aside = (refl, (refl, refl))
+
+pub not_backed : Backed (read 1 2 drained.image) drained.custody → ⊥
+not_backed b = let c = drained_aside.1.0 in let d = drained_aside.1.1 in omega (arith, b.claimable)
+
+-- and the claim asks for that bound only where nothing was
+pub withdrawn : NoWithdrawal emptied → ⊥
+withdrawn n = n full (advance_to 13 ∷ advance_to 14 ∷ []) 1 refl
+
+-- the last of these advances is told 0 and begins with 1: the claim says that it ends with at most 1
+pub drained_bounded : Bounded 1 2 9 (after []) emptied → 1 ≤ 1
+unfolding computing
+drained_bounded b = b (full ++ (withdraw 1 ∷ advance_to 13 ∷ [])) [] (caps_of 14) (given_to 14) refl
+
+-- both events are written, with y 0 and the ratios as ever, and the epochs have passed
+pub drained_events : (read 1 2 drained.image (head num_events) ≡ 5)
+    × ((read 1 2 drained.image (slot 1 event_epoch) ≡ 12) × ((read 1 2 drained.image (slot 0 event_epoch) ≡ 13)
+    × ((read 1 2 drained.image (slot 0 event_y) ≡ 0) × (read 1 2 drained.image (share 0 0 (reward_ratio other)) ≡ 1_000_000))))
+unfolding computing
+drained_events = (refl, (refl, (refl, (refl, refl))))
+
+-- a total rolls there too: 50 are added in epoch 12 and are in the event of epoch 13
+abbrev later_staker : Delegation
+later_staker = record { publisher = key 1; stake_account_positions = key 5; current_epoch = 12 }
+
+pub drained_rolls : (after (full ++ (withdraw 1 ∷ add later_staker 50 ∷ advance_to 14 ∷ []))).history.written 13 0 other ≡ 200
+unfolding computing
+drained_rolls = refl
+
+-- once deposits cover claimable again, y and what is set aside are as ever: epoch 14 is eligible for 1.5, and 1 is set aside
+pub filled_again : (after (emptied ++ (deposit 2 ∷ advance_to 15 ∷ []))).history.set_aside ≡ 2
+unfolding computing
+filled_again = refl
+
+-- what moved the balance: 1 at the start, 6 deposited, 3 withdrawn, 2 taken by the payment
+abbrev after_withdrawal : State
+after_withdrawal = after (twice ++ (withdraw 3 ∷ payment (locked 150) (claim 13) ∷ []))
+
+pub moved : (after_withdrawal.moved ≡ record { deposited = 6; withdrawn = 3; fallen = 2 }) × (after_withdrawal.custody ≡ 2)
+unfolding computing
+moved = (refl, refl)

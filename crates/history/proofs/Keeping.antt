@@ -1,8 +1,8 @@
 -- What keeps the invariant and claimable within custody: a fresh pool has both, words that agree where they are looked at keep them, and so each of
--- item 9's changes. Claimable within custody, for every call. Assumes nothing.
+-- item 9's changes. Claimable within custody, for every call but a withdrawal. Assumes nothing.
 use mathlib.Core.Path.{◌≡◌, refl, ap, ap₂, ◌∙◌}
 use mathlib.Core.List.{List}
-use Prim.Native.Nat.{ℕ, ◌+◌, ◌-◌, ◌%◌, ◌≤◌, ◌<◌, min}
+use Prim.Native.Nat.{ℕ, ◌+◌, ◌-◌, ◌%◌, ◌≤◌, ◌<◌, min, max}
 use native.Mathlib.Nat.{mod-lt, min-le_left, min-le_right}
 use native.Mathlib.Omega.{arith}
 use Rattle.types.specs.Base.{word, Outcome, accepted, sum_below}
@@ -133,12 +133,19 @@ module _ (P E : ℕ) (img : List ℕ) where
   unfolding payment_image
   inv_payment_stored first words c a e h i = rw e (inv_stored P E _ first h i)
 
+  -- ---- claimable after an accepted advance: at most the larger of the balance that it is told and the claimable that it begins with
+
+  pub advance_bounded : (m : List ℕ) (g : Given) (a : Advanced) → advance_call P E img m g ≡ accepted a
+      → read P E (advance_image P E img m g) (head claimable_rewards) ≤ max g.pool_reward_custody_balance (read P E img (head claimable_rewards))
+  unfolding advance_image
+  advance_bounded m g a e =
+      rw (e, read_image P E (advanced_words P E (read P E img) m g.current_epoch a.y a.set_aside) (head claimable_rewards) tt) (advance_keeps P E img m g a e).1
+
   -- ---- claimable within custody: an advance is told custody, a payment takes from claimable at least what it takes from custody
 
-  pub backed_advance : (m : List ℕ) (g : Given) (a : Advanced) → advance_call P E img m g ≡ accepted a → g.pool_reward_custody_balance < word
+  pub backed_advance : (m : List ℕ) (g : Given) (a : Advanced) → advance_call P E img m g ≡ accepted a → Backed (read P E img) g.pool_reward_custody_balance
       → Backed (read P E (advance_image P E img m g)) g.pool_reward_custody_balance
-  unfolding advance_image
-  backed_advance m g a e b = rw e (backed_stored P E _ g.pool_reward_custody_balance (advance_keeps P E img m g a e).1 b)
+  backed_advance m g a e b = record { claimable = omega (arith, advance_bounded m g a e, b.claimable); word = b.word }
 
   pub backed_payment : (custody : ℕ) (words : List ℕ) (c : Claim) (a : Payment) → payment_call P E img words c ≡ accepted a → Backed (read P E img) custody
       → Backed (read P E (payment_image P E img words c)) (custody - a.custody_fall)
@@ -146,3 +153,8 @@ module _ (P E : ℕ) (img : List ℕ) where
       let l = payment_falls P E img words c a e in
       let f = (payment_writes P E img words c a e).falls in
       record { claimable = omega (arith, b.claimable); word = omega (arith, b.word) }
+
+  -- so custody has what a payment takes
+  pub fall_held : (custody : ℕ) (words : List ℕ) (c : Claim) (a : Payment) → payment_call P E img words c ≡ accepted a → Backed (read P E img) custody
+      → a.custody_fall ≤ custody
+  fall_held custody words c a e b = omega (arith, payment_falls P E img words c a e, (payment_writes P E img words c a e).falls, b.claimable)

@@ -1,5 +1,6 @@
 -- Refusal 16 by the letter follows from demand 3: what accepted payments drew is at most what all payments drew. Assumes nothing.
 use mathlib.Core.Path.{◌≡◌}
+use mathlib.Core.Bool.{true}
 use mathlib.Core.List.{List, [], ◌∷◌}
 use Prim.Native.Nat.{ℕ, ◌+◌, ◌-◌, ◌≤◌, ◌<◌}
 use native.Mathlib.Omega.{arith}
@@ -9,7 +10,9 @@ use Rattle.types.proofs.OutcomeLaws.{after_holds}
 use Rattle.image.specs.Layout.{Whose, read}
 use Rattle.integrity_pool.specs.Calls.{fresh_call, advance_call}
 use Rattle.integrity_pool.specs.Payment.{payment_call}
-use Rattle.history.specs.Calls.{Call, advance, forecast, payment, add, remove, create_slash_event, slash, fee, stake_account, deposit, State, start, told, draws, advance_history, payment_history, advance_step, payment_step, change_step, deposit_step, step, run}
+use Rattle.history.specs.Calls.{Call, advance, forecast, payment, add, remove, create_slash_event, slash, fee, stake_account, deposit, withdraw}
+use Rattle.history.specs.Calls.{State, start, told, draws, advance_history, payment_history, advance_step, payment_step, change_step, deposit_step}
+use Rattle.history.specs.Calls.{withdraw_step, step, run, custody_suffices}
 use Rattle.history.specs.Letter.{draws_of, drawn_by, CoveredByLetter}
 use Rattle.history.proofs.Theorem.{where_true, demand3}
 
@@ -19,7 +22,7 @@ module _ (P E first : ℕ) (e s : ℕ) (d : Whose) where
 
   -- a call adds at most what it draws
   step_draws : (st : State) (c : Call) → (step P E first st c).history.drawn e s d ≤ st.history.drawn e s d + draws_of P E first st c e s d
-  unfolding step draws_of change_step advance_step advance_history payment_step payment_history deposit_step
+  unfolding step draws_of change_step advance_step advance_history payment_step payment_history deposit_step withdraw_step
   step_draws st (advance m g) = after_holds (Drawn (st.history.drawn e s d + 0)) (advance_call P E st.image m (told st.custody g)) _ st (λ a q. omega arith) (omega arith)
   step_draws st (forecast m g) = omega arith
   step_draws st (payment words c) =
@@ -31,6 +34,7 @@ module _ (P E first : ℕ) (e s : ℕ) (d : Whose) where
   step_draws st (fee x) = omega arith
   step_draws st (stake_account old new a) = omega arith
   step_draws st (deposit x) = where_true (Drawn (st.history.drawn e s d + 0)) (ltb (st.custody + x) word) _ st (λ q. omega arith) (omega arith)
+  step_draws st (withdraw x) = omega arith
 
   run_draws : (st : State) (calls : List Call) → (run P E first st calls).history.drawn e s d ≤ st.history.drawn e s d + drawn_by P E first st calls e s d
   unfolding run drawn_by
@@ -38,8 +42,9 @@ module _ (P E first : ℕ) (e s : ℕ) (d : Whose) where
   run_draws st (c ∷ calls) = omega (arith, run_draws (step P E first st c) calls, step_draws st c)
 
 pub covered_by_letter : (P E : ℕ) (img : List ℕ) (given custody : ℕ) → fresh_call P E img given ≡ accepted tt → custody < word
-    → (calls : List Call) → CoveredByLetter P E (given - 1) (start P E img given custody) calls
+    → (calls : List Call) → custody_suffices P E (given - 1) (start P E img given custody) calls ≡ true
+    → CoveredByLetter P E (given - 1) (start P E img given custody) calls
 unfolding draws_of
-covered_by_letter P E img given custody q b calls before after words c same t =
-    (demand3 P E img given custody q b calls).covered before after words c same
+covered_by_letter P E img given custody q b calls h before after words c same t =
+    (demand3 P E img given custody q b calls h).covered before after words c same
     (λ e s d l m o. omega (arith, run_draws P E (given - 1) e s d (start P E img given custody) before, t e s d l m o))

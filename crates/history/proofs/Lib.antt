@@ -6,4 +6,5 @@ pub mod EarnedLaws
 pub mod Advancing
 pub mod Paying
 pub mod Theorem
+pub mod CustodyLaws
 pub mod Letter

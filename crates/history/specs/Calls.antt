@@ -1,6 +1,6 @@
 -- 'The words of demand 3': lists of calls on one pool from a fresh one, and what is remembered of them. Each call is accepted or refused, and
--- writes, as demand 2's definitions say. Assumes nothing.
-use Rattle.std.specs.Prelude.{Bool, false, not, ◌&&◌, List, [], ◌∷◌, ℕ, ◌+◌, ◌-◌, ◌*◌, ◌/◌, eqb, leb, ltb, length, if◌then◌else◌}
+-- writes, as demand 2's definitions say. Withdrawals: request [8] of document 02. Assumes nothing.
+use Rattle.std.specs.Prelude.{◌≢◌, Bool, true, false, not, ◌&&◌, List, [], ◌∷◌, ◌++◌, ℕ, ◌+◌, ◌-◌, ◌*◌, ◌/◌, eqb, leb, ltb, length, if◌then◌else◌}
 use Rattle.types.specs.Base.{word, Outcome, refused, accepted, or_zero, after, sum_below}
 use Rattle.positions.specs.declared.Key.{Key}
 use Rattle.positions.specs.declared.position.PositionState.{PositionState}
@@ -31,7 +31,7 @@ pub data Call : Type 0 where
   slash : Slashing → Call
   fee : (fee : ℕ) → Call
   stake_account : (old new : List ℕ) → StakeAccounts → Call
-  deposit : (amount : ℕ) → Call
+  deposit withdraw : (amount : ℕ) → Call
 
 -- ---- what is remembered of them
 
@@ -48,18 +48,32 @@ pub record History : Type 0 where
   -- what accepted payments drew; Letter adds what refused ones drew
   pub drawn : (epoch s : ℕ) → Whose → ℕ
 
--- the pool's image, the custody balance, and the history
+-- what deposits and withdrawals moved, and by how much accepted payments lowered the balance
+pub record Moved : Type 0 where
+  pub deposited : ℕ
+  pub withdrawn : ℕ
+  pub fallen : ℕ
+
+-- what has left the balance
+abbrev pub gone : Moved → ℕ
+gone m = m.withdrawn + m.fallen
+
+-- the pool's image, the custody balance and what moved it, and the history
 pub record State : Type 0 where
   pub image : List ℕ
   pub custody : ℕ
+  pub moved : Moved
   pub history : History
 
 abbrev pub no_history : (first : ℕ) → History
 no_history first = record { now = first; set_aside = 0; paid = 0; occupied = λ e s. false; written = λ e s d. 0; drawn = λ e s d. 0 }
 
+abbrev pub none_moved : Moved
+none_moved = record { deposited = 0; withdrawn = 0; fallen = 0 }
+
 -- 'The list starts at item 9's fresh pool, with any custody balance'
 abbrev pub start : (P E : ℕ) → List ℕ → (given custody : ℕ) → State
-start P E img given custody = record { image = fresh_image P E img given; custody = custody; history = no_history (given - 1) }
+start P E img given custody = record { image = fresh_image P E img given; custody = custody; moved = none_moved; history = no_history (given - 1) }
 
 -- ---- an advance
 
@@ -127,6 +141,7 @@ module _ (P E first : ℕ) where
   advance_step st m g = after (advance_call P E st.image m g) (λ a. record {
     image = advance_image P E st.image m g;
     custody = st.custody;
+    moved = st.moved;
     history = advance_history P (read P E st.image) st.history g.current_epoch a.set_aside;
   }) st
 
@@ -135,16 +150,31 @@ module _ (P E first : ℕ) where
   payment_step st words c = after (payment_call P E st.image words c) (λ a. record {
     image = payment_image P E st.image words c;
     custody = st.custody - a.custody_fall;
+    moved = record { deposited = st.moved.deposited; withdrawn = st.moved.withdrawn; fallen = st.moved.fallen + a.custody_fall };
     history = payment_history P E first (read P E st.image) st.history words c (a.delegator + a.publisher);
   }) st
 
   -- every other call of item 9
   unfoldable pub change_step : State → Outcome Change → State
-  change_step st o = record { image = changed_image P E st.image o; custody = st.custody; history = st.history }
+  change_step st o = record { image = changed_image P E st.image o; custody = st.custody; moved = st.moved; history = st.history }
 
   -- 'A deposit raises the balance', which is a word: there is no deposit past that
   unfoldable pub deposit_step : State → (amount : ℕ) → State
-  deposit_step st x = if ltb (st.custody + x) word then record { image = st.image; custody = st.custody + x; history = st.history } else st
+  deposit_step st x = if ltb (st.custody + x) word then record {
+    image = st.image;
+    custody = st.custody + x;
+    moved = record { deposited = st.moved.deposited + x; withdrawn = st.moved.withdrawn; fallen = st.moved.fallen };
+    history = st.history;
+  } else st
+
+  -- [8] 'A sponsor may withdraw from custody'; `custody_suffices` says that the balance has the amount
+  unfoldable pub withdraw_step : State → (amount : ℕ) → State
+  withdraw_step st x = record {
+    image = st.image;
+    custody = st.custody - x;
+    moved = record { deposited = st.moved.deposited; withdrawn = st.moved.withdrawn + x; fallen = st.moved.fallen };
+    history = st.history;
+  }
 
   unfoldable pub step : State → Call → State
   step st (advance m g) = advance_step st m (told st.custody g)
@@ -157,7 +187,23 @@ module _ (P E first : ℕ) where
   step st (fee x) = change_step st (fee_call P E st.image x)
   step st (stake_account old new a) = change_step st (stake_account_call P E st.image old new a)
   step st (deposit x) = deposit_step st x
+  step st (withdraw x) = withdraw_step st x
 
   unfoldable pub run : State → List Call → State
   run st [] = st
   run st (c ∷ calls) = run (step st c) calls
+
+  -- ---- [8] the lists that there are
+
+  -- by how much a call lowers the balance: a withdrawal by its amount, an accepted payment as in item 8, every other call by nothing
+  unfoldable pub lowers : State → Call → ℕ
+  lowers st c = gone (step st c).moved - gone st.moved
+
+  -- 'the token side refuses a withdrawal or payment that would lower the balance by more than it holds, and such a one is not in the list'
+  unfoldable pub custody_suffices : State → List Call → Bool
+  custody_suffices st [] = true
+  custody_suffices st (c ∷ calls) = leb (lowers st c) st.custody && custody_suffices (step st c) calls
+
+-- 'Where no withdrawal occurs'
+abbrev pub NoWithdrawal : List Call → Type 0
+NoWithdrawal calls = (before later : List Call) (amount : ℕ) → calls ≢ before ++ withdraw amount ∷ later

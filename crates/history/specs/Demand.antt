@@ -1,12 +1,13 @@
--- Demand 3: one claim about every list of calls from a fresh pool. Assumes nothing.
-use Rattle.std.specs.Prelude.{◌≡◌, ◌≢◌, true, List, ◌∷◌, ◌++◌, ℕ, ◌+◌, ◌-◌, ◌%◌, ◌≤◌, ◌<◌, min}
-use Rattle.types.specs.Base.{word, Outcome, refused, accepted}
+-- Demand 3: one claim about every list of calls from a fresh pool, with request [8]'s withdrawals. Assumes nothing.
+use Rattle.std.specs.Prelude.{◌≡◌, ◌≢◌, true, List, ◌∷◌, ◌++◌, ℕ, ◌+◌, ◌-◌, ◌%◌, ◌≤◌, ◌<◌, min, max}
+use Rattle.types.specs.Base.{word, refused, accepted}
 use Rattle.types.specs.Refusals.{payment_above_claimable}
-use Rattle.image.specs.Layout.{Whose, last_updated_epoch, claimable_rewards, num_events, Slot, event_epoch, Share, Field, head, slot, share, Words, InRange, read}
+use Rattle.image.specs.Layout.{Whose, last_updated_epoch, claimable_rewards, num_events, Slot, event_epoch, Share, head, slot, share, Words, InRange, read}
+use Rattle.advance_plan.specs.declared.Given.{Given}
 use Rattle.integrity_pool.specs.declared.payment.Claim.{Claim}
 use Rattle.integrity_pool.specs.Calls.{fresh_call}
-use Rattle.integrity_pool.specs.Payment.{Payment, payment_call}
-use Rattle.history.specs.Calls.{Call, payment, History, State, start, draws, run}
+use Rattle.integrity_pool.specs.Payment.{payment_call}
+use Rattle.history.specs.Calls.{Call, advance, payment, History, gone, State, start, draws, step, run, custody_suffices, NoWithdrawal}
 
 -- ---- claimable
 
@@ -14,10 +15,28 @@ use Rattle.history.specs.Calls.{Call, payment, History, State, start, draws, run
 pub record Books (w : Words) (h : History) : Type 0 where
   pub claimable : w (head claimable_rewards) + h.paid ≡ h.set_aside
 
--- 'at most custody', which is a word
+abbrev pub claimable_of : (P E : ℕ) → State → ℕ
+claimable_of P E st = read P E st.image (head claimable_rewards)
+
+-- [8] 'In any list, every accepted advance ends with claimable at most the larger of the balance it was told and the claimable it began with'; a
+-- refused one leaves it
+abbrev pub Bounded : (P E first : ℕ) → State → List Call → Type 0
+Bounded P E first begin calls =
+    (before after : List Call) (m : List ℕ) (g : Given) → calls ≡ before ++ advance m g ∷ after
+    → claimable_of P E (step P E first (run P E first begin before) (advance m g))
+    ≤ max (run P E first begin before).custody (claimable_of P E (run P E first begin before))
+
+-- [8] 'Where no withdrawal occurs the old bound stands': 'at most custody', which is a word
 pub record Backed (w : Words) (custody : ℕ) : Type 0 where
   pub claimable : w (head claimable_rewards) ≤ custody
   pub word : custody < word
+
+-- ---- custody
+
+-- the balance at the start and the deposits, less withdrawals and what accepted payments lowered it by, as a sum of whole numbers; it is a word
+pub record Balanced (begin : ℕ) (st : State) : Type 0 where
+  pub custody : st.custody + gone st.moved ≡ begin + st.moved.deposited
+  pub word : st.custody < word
 
 -- ---- the ring
 
@@ -75,12 +94,16 @@ Covered P E first begin calls =
 
 pub record Holds (P E first : ℕ) (begin : State) (calls : List Call) : Type 0 where
   pub books : Books (read P E (run P E first begin calls).image) (run P E first begin calls).history
-  pub backed : Backed (read P E (run P E first begin calls).image) (run P E first begin calls).custody
+  pub bounded : Bounded P E first begin calls
+  pub backed : NoWithdrawal calls → Backed (read P E (run P E first begin calls).image) (run P E first begin calls).custody
+  pub balanced : Balanced begin.custody (run P E first begin calls)
   pub ring : RingHolds P E first (run P E first begin calls).history.now (read P E (run P E first begin calls).image)
   pub covered : Covered P E first begin calls
 
--- every P and E, every list taken for the pool, every given epoch that fresh accepts, every custody balance, every list of calls
+-- every P and E, every list taken for the pool, every given epoch that fresh accepts, every custody balance, every list of calls that the token side
+-- lets happen
 abbrev pub Demand3 : Type 0
 Demand3 =
     (P E : ℕ) (img : List ℕ) (given custody : ℕ) → fresh_call P E img given ≡ accepted tt → custody < word
-    → (calls : List Call) → Holds P E (given - 1) (start P E img given custody) calls
+    → (calls : List Call) → custody_suffices P E (given - 1) (start P E img given custody) calls ≡ true
+    → Holds P E (given - 1) (start P E img given custody) calls

@@ -6,7 +6,8 @@ use Rattle.types.specs.Refusals.{payment_above_claimable}
 use Rattle.image.specs.Layout.{Whose, read}
 use Rattle.integrity_pool.specs.declared.payment.Claim.{Claim}
 use Rattle.integrity_pool.specs.Payment.{payment_call}
-use Rattle.history.specs.Calls.{Call, advance, forecast, payment, add, remove, create_slash_event, slash, fee, stake_account, deposit, State, draws, step, run}
+use Rattle.history.specs.Calls.{Call, advance, forecast, payment, add, remove, create_slash_event, slash, fee, stake_account, deposit, withdraw}
+use Rattle.history.specs.Calls.{State, draws, step, run}
 
 module _ (P E first : ℕ) where
   -- what one call draws, accepted or refused
@@ -21,6 +22,7 @@ module _ (P E first : ℕ) where
   draws_of st (fee x) e s d = 0
   draws_of st (stake_account old new a) e s d = 0
   draws_of st (deposit x) e s d = 0
+  draws_of st (withdraw x) e s d = 0
 
   -- what a list of calls draws from this state on
   unfoldable pub drawn_by : State → List Call → (epoch s : ℕ) → Whose → ℕ

@@ -2,7 +2,7 @@
 use mathlib.Core.Path.{◌≡◌}
 use mathlib.Core.Bool.{true}
 use mathlib.Core.List.{List}
-use Prim.Native.Nat.{ℕ, ◌+◌, ◌/◌, ◌≤◌, ◌<◌}
+use Prim.Native.Nat.{ℕ, ◌+◌, ◌/◌, ◌≤◌, ◌<◌, max}
 use native.Mathlib.Omega.{arith}
 use Rattle.std.proofs.lemmas.Grind.{common_steps}
 use Rattle.types.specs.Base.{word, half, Outcome, accepted, all_below}
@@ -88,9 +88,9 @@ module _ (P E : ℕ) (img m : List ℕ) (g : Given) where
       let q = map_accepted (answer_with P (read P E img) m) (adjustment_of P (read P E img) m g (total_eligible P (read P E img) m g)) a t.1 in
       record { checked = t.0; adjustment = q.0; adjusts = adjustment_accepted P (read P E img) m g _ q.0 q.1.0; answer = q.1.1 }
 
-  -- y does not grow, and claimable with what is set aside stays within custody
+  -- y does not grow, and claimable with what is set aside is at most the larger of custody and claimable
   pub advance_keeps : (a : Advanced) → advance_call P E img m g ≡ accepted a
-      → (a.y ≤ g.y) × (read P E img (head claimable_rewards) + a.set_aside ≤ g.pool_reward_custody_balance)
+      → (a.y ≤ g.y) × (read P E img (head claimable_rewards) + a.set_aside ≤ max g.pool_reward_custody_balance (read P E img (head claimable_rewards)))
   unfolding answer_with
   advance_keeps a e =
       let t = advance_accepted a e in

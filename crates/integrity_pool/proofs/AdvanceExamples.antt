@@ -112,10 +112,12 @@ pub lowered_answer : answer found (rows 1_000_000) (given 12 10_007) ≡ accepte
 unfolding advances
 lowered_answer = refl
 
--- the words that change; all others of the 91 stay
-pub lowered_image : advance_image 2 4 found (rows 1_000_000) (given 12 10_007) ≡ image 2 4 (set_to (
+-- the words that change where y' and claimable are these; all others of the 91 stay
+abbrev advanced_to : (y claimable : ℕ) → List ℕ
+advanced_to y claimable =
+    image 2 4 (set_to (
     (head last_updated_epoch, 12)
-    ∷ (head claimable_rewards, 10_006)
+    ∷ (head claimable_rewards, claimable)
     ∷ (head num_events, 6)
     ∷ (seat 0 (total_delegation self), 1_000_000)
     ∷ (seat 0 (delta_delegation self), 0)
@@ -123,22 +125,42 @@ pub lowered_image : advance_image 2 4 found (rows 1_000_000) (given 12 10_007) �
     ∷ (seat 0 (delta_delegation other), 0)
     ∷ (seat 1 (publishers 3), 5 * 256 ^ 7)
     ∷ (slot 3 event_epoch, 9)
-    ∷ (slot 3 event_y, 3_333)
+    ∷ (slot 3 event_y, y)
     ∷ (share 3 0 (reward_ratio self), 1_000_000)
     ∷ (share 3 0 (reward_ratio other), 500_000)
     ∷ (share 3 0 event_fee, 200_000)
     ∷ (slot 0 event_epoch, 10)
-    ∷ (slot 0 event_y, 3_333)
+    ∷ (slot 0 event_y, y)
     ∷ (share 0 0 (reward_ratio self), 1_000_000)
     ∷ (share 0 0 event_fee, 200_000)
     ∷ (slot 1 event_epoch, 11)
-    ∷ (slot 1 event_y, 3_333)
+    ∷ (slot 1 event_y, y)
     ∷ (share 1 0 (reward_ratio self), 1_000_000)
     ∷ (share 1 0 event_fee, 200_000)
     ∷ [])
     found_words)
+
+pub lowered_image : advance_image 2 4 found (rows 1_000_000) (given 12 10_007) ≡ advanced_to 3_333 10_006
 unfolding advances
 lowered_image = refl
+
+-- [8] on a drained custody, claimable 7 over 6: y' is 0 and nothing is set aside; the events are written, totals roll, the row is seated
+pub drained_answer : answer found (rows 1_000_000) (given 12 6) ≡ accepted (0, 0, 1, 1, 1)
+unfolding advances
+drained_answer = refl
+
+pub drained_image : advance_image 2 4 found (rows 1_000_000) (given 12 6) ≡ advanced_to 0 7
+unfolding advances
+drained_image = refl
+
+-- 13 for R + claimable stays ahead of it: R is 30,000
+abbrev claiming : (claimable : ℕ) → List ℕ
+claiming claimable = image 2 4 (set_to ((head claimable_rewards, claimable) ∷ []) found_words)
+
+pub drained_13 : (answer (claiming (word - 30_000)) (rows 1_000_000) (given 12 6) ≡ refused 13)
+    × (answer (claiming (word - 30_001)) (rows 1_000_000) (given 12 6) ≡ accepted (0, 0, 1, 1, 1))
+unfolding advances
+drained_13 = (refl, refl)
 
 pub lowered_forecast : forecast_call 2 4 found (rows 1_000_000) (given 12 10_007) ≡ accepted 9_999
 unfolding advances
@@ -215,10 +237,10 @@ pub count_edge : (both 2 4 (with_count (half - 3)) (rows 9) (given 12 7) ≡ bot
 unfolding advances
 count_edge = (refl, refl, refl)
 
--- claimable 7 over custody 6
-pub refused_14 : both 2 4 found (rows 9) (given 12 6) ≡ both_refused 14
+-- claimable 7 over custody 6 is no refusal of either any more
+pub drained_both : both 2 4 found (rows 9) (given 12 6) ≡ (accepted 0, accepted 0)
 unfolding advances
-refused_14 = refl
+drained_both = refl
 
 -- ---- the order: one fault after the other is put right
 
@@ -234,7 +256,7 @@ pub in_order : (both 0 4 below_zero (bytes 10 0) (given_as 9 10_001 6 0 0) ≡ b
     × (both 2 4 below_zero no_time (given 12 6) ≡ both_refused 13)
     × (both 2 4 below_zero (message 7_257_599 []) (given 12 6) ≡ both_refused 9)
     × (both 2 4 below_zero (message 7_257_600 []) (given 12 6) ≡ both_refused 13)
-    × (both 2 4 found (message 7_257_600 []) (given 12 6) ≡ both_refused 14)
+    × (both 2 4 found (message 7_257_600 []) (given 12 6) ≡ (accepted 0, accepted 0))
     × (both 2 4 found (message 7_257_600 []) (given 12 7) ≡ (accepted 0, accepted 0))
 unfolding advances
 in_order = (refl, refl, refl, refl, refl, refl, refl, refl, refl, refl, refl)

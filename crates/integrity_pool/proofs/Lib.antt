@@ -1,4 +1,5 @@
 pub mod AcceptedLaws
+pub mod DrainedLaws
 pub mod Computing
 pub mod AdvanceExamples
 pub mod Examples

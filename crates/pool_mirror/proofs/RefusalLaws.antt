@@ -1,12 +1,14 @@
 -- Each call's refusals are those of its list (specs/Refusals), and a function returns 0 exactly where its call is accepted. Assumes nothing.
 use mathlib.Core.Path.{◌≡◌, refl, sym, ap, ◌∙◌, subst}
 use mathlib.Core.Bool.{Bool, true, false}
-use mathlib.Core.List.{List}
+use mathlib.Core.Logic.{◌≢◌}
+use mathlib.Core.List.{List, ◌++◌}
 use Prim.Native.Nat.{ℕ, ◌<◌}
 use native.Mathlib.Omega.{arith}
 use Rattle.std.specs.Prelude.{if◌then◌else◌}
 use Rattle.types.specs.Base.{Outcome, refused, accepted, map_outcome, and_then, is_accepted}
-use Rattle.types.specs.Refusals.{invalid_image, invalid_publisher, publisher_not_found, outdated_publisher_accounting, does_not_fit, unexpected_position_state}
+use Rattle.types.specs.Refusals.{invalid_image, invalid_publisher, publisher_not_found, outdated_publisher_accounting, does_not_fit}
+use Rattle.types.specs.Refusals.{claimable_over_custody, unexpected_position_state}
 use Rattle.positions.specs.declared.Key.{Key}
 use Rattle.std.specs.Prelude.{Option, Some, None}
 use Rattle.positions.specs.declared.position.PositionState.{PositionState}
@@ -27,11 +29,14 @@ use Rattle.integrity_pool.specs.declared.slash.Slashing.{Slashing}
 use Rattle.integrity_pool.specs.declared.stake_account.StakeAccounts.{StakeAccounts}
 use Rattle.integrity_pool.specs.Calls.{fresh_call, checked_then, advance_call, forecast_call}
 use Rattle.integrity_pool.specs.Payment.{custody_fall, pay_out, payment_at, payment_of, payment_call}
-use Rattle.integrity_pool.specs.Changes.{checked_image_then, add_call, remove_call, create_at, create_slash_event_call, slash_order, slash_change, slash_call, fee_call, first_account, later_account, may_change, new_account, stake_account_at_seat, stake_account_call}
+use Rattle.integrity_pool.specs.Changes.{checked_image_then, add_call, remove_call, create_at, create_slash_event_call, slash_order, slash_change}
+use Rattle.integrity_pool.specs.Changes.{slash_call, fee_call, first_account, later_account, may_change, new_account, stake_account_at_seat}
+use Rattle.integrity_pool.specs.Changes.{stake_account_call}
 use Rattle.pool_mirror.proofs.InputLaws.{is_other}
 use Rattle.pool_mirror.specs.Inputs.{state_of}
 use Rattle.pool_mirror.specs.Answers.{number_of, payment_answer}
-use Rattle.pool_mirror.specs.Refusals.{has, Among, fresh_refusals, advance_refusals, payment_refusals, add_refusals, remove_refusals, create_refusals, slash_refusals, fee_refusals, stake_account_refusals, position_state_refusals}
+use Rattle.pool_mirror.specs.Refusals.{has, Among, fresh_refusals, advance_refusals, payment_refusals, add_refusals, remove_refusals, create_refusals}
+use Rattle.pool_mirror.specs.Refusals.{slash_refusals, fee_refusals, stake_account_refusals, position_state_refusals}
 
 -- ---- of the shapes that definitions are made of
 
@@ -234,6 +239,26 @@ module _ {A : Type 0} (ks : List ℕ) (none : has ks 0 ≡ false) where
   unfolding Among
   zero_accepted (refused n) p e = sym none ∙ ap (has ks) (sym e) ∙ p
   zero_accepted (accepted a) p e = refl
+
+-- a number that is in no list is never given
+not_among : {A : Type 0} (ks : List ℕ) (k : ℕ) → has ks k ≡ false → (o : Outcome A) → Among ks o → o ≢ refused k
+unfolding Among
+not_among ks k none o p e = let z : true ≡ false = sym (subst (Among ks) e p) ∙ none in cc
+
+-- [8] 'Refusal 14 is shown never to occur': it is in no call's list
+pub in_no_list :
+    has (fresh_refusals ++ advance_refusals ++ payment_refusals ++ add_refusals ++ remove_refusals ++ create_refusals ++ slash_refusals ++ fee_refusals
+    ++ stake_account_refusals ++ position_state_refusals) claimable_over_custody
+    ≡ false
+in_no_list = refl
+
+-- so of the two calls that gave it before, on any image, message and inputs
+module _ (P E : ℕ) (img m : List ℕ) (g : Given) where
+  pub advance_never_14 : advance_call P E img m g ≢ refused claimable_over_custody
+  advance_never_14 = not_among advance_refusals claimable_over_custody refl _ (advance_refusals_law P E img m g)
+
+  pub forecast_never_14 : forecast_call P E img m g ≢ refused claimable_over_custody
+  forecast_never_14 = not_among advance_refusals claimable_over_custody refl _ (forecast_refusals P E img m g)
 
 -- the lists one by one: each is asked for 0
 module _ (P E : ℕ) (img : List ℕ) where

@@ -1,7 +1,13 @@
 -- The refusals of each call: these and no others, and none of them is 0. Assumes nothing.
 use Rattle.std.specs.Prelude.{◌≡◌, Bool, true, false, ◌||◌, List, [], ◌∷◌, ℕ, eqb}
 use Rattle.types.specs.Base.{Outcome, refused, accepted}
-use Rattle.types.specs.Refusals.{invalid_image, invalid_epoch, invalid_publisher_caps, invalid_positions, invalid_y, invalid_delegation_fee, unverified_publisher_caps, pool_data_already_up_to_date, outdated_publisher_caps, invalid_publisher, publisher_not_found, outdated_publisher_accounting, does_not_fit, claimable_over_custody, unexpected_position_state, payment_above_claimable, publisher_stake_account_mismatch, publisher_custody_account_required, outdated_delegator_accounting, wrong_slash_event_order, invalid_slash_event_index, slash_event_ahead_of_now, publisher_or_reward_authority_needs_to_sign, current_stake_account_should_be_undelegated, stake_account_owner_needs_to_sign, account_not_enough_keys, new_stake_account_should_be_undelegated}
+use Rattle.types.specs.Refusals.{invalid_image, invalid_epoch, invalid_publisher_caps, invalid_positions, invalid_y, invalid_delegation_fee}
+use Rattle.types.specs.Refusals.{unverified_publisher_caps, pool_data_already_up_to_date, outdated_publisher_caps, invalid_publisher}
+use Rattle.types.specs.Refusals.{publisher_not_found, outdated_publisher_accounting, does_not_fit, unexpected_position_state, payment_above_claimable}
+use Rattle.types.specs.Refusals.{publisher_stake_account_mismatch, publisher_custody_account_required, outdated_delegator_accounting}
+use Rattle.types.specs.Refusals.{wrong_slash_event_order, invalid_slash_event_index, slash_event_ahead_of_now}
+use Rattle.types.specs.Refusals.{publisher_or_reward_authority_needs_to_sign, current_stake_account_should_be_undelegated}
+use Rattle.types.specs.Refusals.{stake_account_owner_needs_to_sign, account_not_enough_keys, new_stake_account_should_be_undelegated}
 
 -- whether a number is in a list
 abbrev pub has : List ℕ → ℕ → Bool
@@ -16,11 +22,11 @@ Among ks (accepted a) = Unit {0}
 abbrev pub fresh_refusals : List ℕ
 fresh_refusals = invalid_image ∷ invalid_epoch ∷ []
 
--- of an advance and of a forecast
+-- of an advance and of a forecast; 14 is none of them ([8] of document 02)
 abbrev pub advance_refusals : List ℕ
 advance_refusals =
     invalid_image ∷ invalid_epoch ∷ invalid_publisher_caps ∷ invalid_y ∷ unverified_publisher_caps ∷ pool_data_already_up_to_date ∷ outdated_publisher_caps
-    ∷ does_not_fit ∷ claimable_over_custody ∷ []
+    ∷ does_not_fit ∷ []
 
 abbrev pub payment_refusals : List ℕ
 payment_refusals =

@@ -54,7 +54,7 @@ outdated_publisher_accounting = 12
 abbrev pub does_not_fit : ℕ
 does_not_fit = 13
 
--- advance: claimable over custody
+-- claimable over custody: never given, since [8] of document 02 lets such an advance pass
 abbrev pub claimable_over_custody : ℕ
 claimable_over_custody = 14
 

@@ -18,6 +18,7 @@ pub enum Refusal {
     PublisherNotFound = 11,
     OutdatedPublisherAccounting = 12,
     DoesNotFit = 13,
+    // Never given: an advance passes where claimable is over custody ([8] of document 02). The number stays the table's.
     ClaimableOverCustody = 14,
     UnexpectedPositionState = 15,
     PaymentAboveClaimable = 16,

@@ -27,4 +27,4 @@ returns-clause-worked g c =
     all_worked a.every_rolled _ _ _ a.given c.last_updated_epoch-last.ensures c.publish_time.ensures c.in_ok-passed.ensures c.seats-seats.ensures
     c.match_rows-marks.ensures.matched sums.sums c.over-sum.ensures c.num_events.ensures
     c.claimable_rewards-claimable.ensures
-    _ _ sums.shares (omega (arith, seats_le a.pool.p (words_of a.pool), c.seats-seats.ensures)) refl refl c.in_ok-y.ensures (omega (arith, c.well_formed))
+    _ _ sums.shares (omega (arith, seats_le a.pool.p (words_of a.pool), c.seats-seats.ensures)) refl refl c.in_ok-y.ensures
