@@ -24,7 +24,8 @@ use Rattle.event_amounts.proofs.GatherLaws.{drawn_none, read_none, read_all, rea
 pub reads_no_match : (E : ℕ) (w : Words) (words : List ℕ) (publisher : Key) (from : ℕ)
     → ((i : ℕ) → i < length words / 9 → in_publisher words (i * 9) publisher ≡ false) → reads_of E w words publisher from ≡ 0
 unfolding reads_of
-reads_no_match E w words publisher from none = sum_skips _ 0 (length words / 9) (omega arith) (λ i _ l. read_none E w words publisher from i (none i l)) ∙ sym (sum_none _)
+reads_no_match E w words publisher from none =
+    sum_skips _ 0 (length words / 9) (omega arith) (λ i _ l. read_none E w words publisher from i (none i l)) ∙ sym (sum_none _)
 
 -- [9] 'or with n of 0, it is 0'
 pub reads_no_event : (E : ℕ) (w : Words) (words : List ℕ) (publisher : Key) (from : ℕ) → w (head num_events) ≡ 0 → reads_of E w words publisher from ≡ 0
@@ -57,7 +58,9 @@ module _ (E : ℕ) (w : Words) (words : List ℕ) (publisher : Key) (from : ℕ)
     reads_least = sum_le adds_to _ (length words / 9) (λ i l. one i (here i) refl)
       where
         one : (i : ℕ) (t : Bool) → here i ≡ t → adds_to i ≤ read_by E w words publisher from i
-        one i true e = omega (arith, count_le (λ k. ltb 0 (drawn_at E w words publisher unlocking k i)) (walk_meets E w from), meets_read E w from, read_all E w words publisher from i e)
+        one i true e =
+            let f : ℕ → Bool = λ k. ltb 0 (drawn_at E w words publisher unlocking k i) in
+            omega (arith, count_le f (walk_meets E w from), meets_read E w from, read_all E w words publisher from i e)
         one i false e =
             let f : ℕ → Bool = λ k. ltb 0 (drawn_at E w words publisher unlocking k i) in
             omega (

@@ -22,8 +22,12 @@ use Rattle.history.specs.Calls.{custody_suffices, NoWithdrawal}
 
 -- ---- what the list computes with
 
+steps : Unit {0}
+unfolding advance_history payment_history advance_step payment_step change_step deposit_step withdraw_step step run
+steps = tt
+
 computing : Unit {0}
-unfolding advances payments changes advance_history newest_passed matching_in draws payment_history advance_step payment_step change_step deposit_step withdraw_step step run lowers custody_suffices
+unfolding advances payments changes steps newest_passed matching_in draws lowers custody_suffices
 computing = tt
 
 -- ---- the list

@@ -17,7 +17,8 @@ use Rattle.image.specs.Layout.{Field, Words, addr, if_below, if_equal, side_fiel
 use Rattle.image.specs.Seats.{sized_image, checked_image, empty_seat, seats_of, first_seat, publisher_index_of, with_side}
 use Rattle.image.specs.Changes.{self_side, with_slash_events, with_stake_account, with_fees, changed_image}
 use Rattle.advance_plan.specs.Advance.{key_number, seat_cap, seat_rolls, eligible_at, ratio_at, eligible_in, ratio_in, eligible_sum, forecast_sum, matched_row, key_after, event_written, events_after, adjustment_of, matched_rows, answer_with, advance_of, forecast_of}
-use Rattle.event_walk.specs.Walk.{walk_length, walk_slot, walk_epoch, walk_meets, is_read, walk_reads, drawn_in, walk_fits, drawn_at, slot_amount, gather_fits, read_by, reads_of}
+use Rattle.event_walk.specs.Walk.{walk_length, walk_slot, walk_epoch, walk_meets, is_read, walk_reads, drawn_in, walk_fits}
+use Rattle.event_walk.specs.Walk.{drawn_at, slot_amount, gather_fits, read_by, reads_of}
 use Rattle.pool.specs.Reward.{slot_reward, reward_sum, calculate_reward}
 use Rattle.pool.specs.Changes.{up_to_date, delegation_seat, slash_seat, account_side, side_change, add_delegation, remove_delegation, apply_slash}
 use Rattle.integrity_pool.specs.Calls.{fresh_call, fresh_image, checked_then, advance_call, advance_image, forecast_call}

@@ -231,16 +231,8 @@ module _ (words : List ℕ) (epoch unlocking : ℕ) where
   unfolding state_call
   position_state_refusals_law = search (among, by_in) depth 20
 
--- ---- what a caller makes of the number
+-- ---- a number that is in no list is never given
 
--- where 0 is in no list, a function that returns 0 was accepted
-module _ {A : Type 0} (ks : List ℕ) (none : has ks 0 ≡ false) where
-  pub zero_accepted : (o : Outcome A) → Among ks o → number_of o ≡ 0 → is_accepted o ≡ true
-  unfolding Among
-  zero_accepted (refused n) p e = sym none ∙ ap (has ks) (sym e) ∙ p
-  zero_accepted (accepted a) p e = refl
-
--- a number that is in no list is never given
 not_among : {A : Type 0} (ks : List ℕ) (k : ℕ) → has ks k ≡ false → (o : Outcome A) → Among ks o → o ≢ refused k
 unfolding Among
 not_among ks k none o p e = let z : true ≡ false = sym (subst (Among ks) e p) ∙ none in cc
@@ -259,6 +251,15 @@ module _ (P E : ℕ) (img m : List ℕ) (g : Given) where
 
   pub forecast_never_14 : forecast_call P E img m g ≢ refused claimable_over_custody
   forecast_never_14 = not_among advance_refusals claimable_over_custody refl _ (forecast_refusals P E img m g)
+
+-- ---- what a caller makes of the number
+
+-- where 0 is in no list, a function that returns 0 was accepted
+module _ {A : Type 0} (ks : List ℕ) (none : has ks 0 ≡ false) where
+  pub zero_accepted : (o : Outcome A) → Among ks o → number_of o ≡ 0 → is_accepted o ≡ true
+  unfolding Among
+  zero_accepted (refused n) p e = sym none ∙ ap (has ks) (sym e) ∙ p
+  zero_accepted (accepted a) p e = refl
 
 -- the lists one by one: each is asked for 0
 module _ (P E : ℕ) (img : List ℕ) where
