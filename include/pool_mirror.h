@@ -1,20 +1,20 @@
 /* pool_mirror: the accounting of an oracle staking pool as a static library, for C99, C++ and every language that can call C on x86-64.
  *
- * A function returns 0 where the call is accepted, else the refusal's number (1 to 27, listed below). On a refusal pool, record and answer are as they
- * were. What a function returns, answers and writes is proved for input of any content and length; what it can test, it doesn't ask of the caller.
+ * A function returns 0 where the call is accepted, else the refusal's number (1 to 29, listed below). On a refusal pool, record, answer and parts are
+ * as they were. What a function returns, answers and writes is proved for input of any content and length; what it can test, it doesn't ask of the caller.
  *
  * To link: target/staticlib/libpool_mirror.a (`./build library`), and a memcpy and a memset, which any C library has. clients/ has two
  * programs in C and in Rust that use it.
  *
  * What every caller keeps, since no function can test it:
  *
- * - A list is a pointer and its number of elements: `pool_len`, `positions_len` and `position_len` count 64-bit words, `caps_len` bytes. The pointer is
- *   aligned to its element (8 bytes for a word) and reaches that many elements, all of them initialised.
+ * - A list is a pointer and its number of elements: `pool_len`, `positions_len`, `position_len`, `weights_len` and `parts_len` count 64-bit words,
+ *   `caps_len` bytes. The pointer is aligned to its element (8 bytes for a word) and reaches that many elements, all of them initialised.
  * - An array with a length in its type (a key of 4 words, a record of 2, an answer of 1, 4 or 5) has that length, and is aligned to 8 bytes. No length is
  *   passed, so none is tested.
  * - No pointer is NULL: not that of an empty list, and not those of an absent account.
- * - `pool`, `record` and `answer` overlap no other argument and not each other, and no other thread reads or writes them while the call runs. An overlap
- *   breaks the contract silently: no error, wrong figures. In a forecast the pool is const.
+ * - `pool`, `record`, `answer` and `parts` overlap no other argument and not each other, and no other thread reads or writes them while the call runs.
+ *   An overlap breaks the contract silently: no error, wrong figures. In a forecast the pool is const.
  * - const arguments may overlap each other, and nobody writes them while the call runs.
  * - The stack has POOL_MIRROR_STACK bytes left.
  *
@@ -27,7 +27,7 @@
 #include <stddef.h>
 #include <stdint.h>
 
-#define POOL_MIRROR_VERSION "1.4.0"
+#define POOL_MIRROR_VERSION "1.5.0"
 
 #ifdef __cplusplus
 extern "C" {
@@ -73,7 +73,10 @@ extern "C" {
  * A payment writes the first, a slash the second. A new record is 0 and 0. */
 #define POOL_MIRROR_RECORD_LEN 2
 
-/* Enough for every function, whatever its input. Measured: 62 KiB in advance and forecast, 4 KiB in payment, less than 1 KiB in the others. */
+/* A split has at most so many weights. */
+#define POOL_MIRROR_MAX_WEIGHTS 64
+
+/* Enough for every function, whatever its input. Measured: 62 KiB in advance and forecast, 4 in payment, less than 2 in split and than 1 in the others. */
 #define POOL_MIRROR_STACK 131072
 
 /* The state of a position: pool_mirror_position_state answers it, pool_mirror_remove takes it. Any other number is refused there where UNLOCKING is. */
@@ -113,7 +116,9 @@ enum pool_mirror_refusal {
     POOL_MIRROR_CURRENT_STAKE_ACCOUNT_SHOULD_BE_UNDELEGATED = 24, /* the old account holds a position with this publisher */
     POOL_MIRROR_STAKE_ACCOUNT_OWNER_NEEDS_TO_SIGN = 25,          /* the signer is not the old account's owner */
     POOL_MIRROR_ACCOUNT_NOT_ENOUGH_KEYS = 26,                    /* the seat has a stake account, and no old account is given */
-    POOL_MIRROR_NEW_STAKE_ACCOUNT_SHOULD_BE_UNDELEGATED = 27     /* the new account holds a position with this publisher */
+    POOL_MIRROR_NEW_STAKE_ACCOUNT_SHOULD_BE_UNDELEGATED = 27,    /* the new account holds a position with this publisher */
+    POOL_MIRROR_INVALID_WEIGHTS = 28,                            /* more than 64 weights, or an output list of another length */
+    POOL_MIRROR_ZERO_WEIGHT_SUM = 29                             /* the weights add up to 0, no weights included */
 };
 
 /* A new pool in `epoch`: every word 0 but the last epoch, which is epoch - 1. What the words held makes no difference.
@@ -199,6 +204,12 @@ uint64_t pool_mirror_stake_account(uint64_t *pool, size_t pool_len, size_t p, si
                                    const uint64_t authority[4], uint64_t has_old, const uint64_t old_account[4], const uint64_t old_owner[4],
                                    const uint64_t *old_positions, size_t old_positions_len, uint64_t has_new, const uint64_t new_account[4],
                                    const uint64_t *new_positions, size_t new_positions_len);
+
+/* A reward is split among clients by weight, to the smallest unit: `weights` has each client's weight, and `parts`, of the same length, gets each client's
+ * part in the same order. That is the reward times the weight over the sum of the weights, rounded down; the units left go one each to the clients with
+ * the largest remainders, of equal ones to the earlier. The parts add up to the reward, and a weight of 0 gets 0. No pool is read.
+ * Refusals: 28 for more than 64 weights or a parts_len that is not weights_len, 13 for a sum of the weights past 64 bits, 29 for a sum of 0. */
+uint64_t pool_mirror_split(uint64_t reward, const uint64_t *weights, size_t weights_len, uint64_t *parts, size_t parts_len);
 
 #ifdef __cplusplus
 }

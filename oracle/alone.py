@@ -87,6 +87,8 @@ INPUTS = [
     ("positions of a million numbers", after(PAYMENT, b"1," * MILLION, b"\nnonzero"), FRESH + "refused 4\nok 0:9\n"),
     ("positions of 100 MB of keys", after(PAYMENT, *[f"0x{A_KEY},".encode() * 15_000] * 100), FRESH + "refused 4\n"),
     ("a position of a million numbers", [b"state 1 " + b"1," * MILLION], "refused 4\n"),
+    ("weights of a million numbers", [b"split 1 " + b"1," * MILLION], "refused 28\n"),
+    ("65 weights and 100 MB of NUL bytes", [b"split 1 " + b"0," * 65, *million("\0"), b"\nnonzero"], "refused 28\nok\n"),
     ("a million fields", [b"new" + b" 1" * MILLION + b"\n"], told(f"new: {MANY}")),
     ("a million fields behind no call", [b"x" + b" 1" * MILLION + b"\n"], told(CALL)),
     ("a million fields in a comment", [b"#" + b" 1" * MILLION + b"\nnonzero\n"], "ok\n"),

@@ -83,8 +83,9 @@ class Terminals(Runs):
                  "ok 29\n" + told(CALL, 2) + "ok\n" + told(CALL, 6) + told(CALL, 7) + "ok 0:9\nok\n"),
                 ("a wrong line longer than is held at once, then others", "x" * 500_000 + "\n" + "nonzero " + "x" * 500_000 + "\n" + "fresh " + "1" * 500_000 + " 1\nnonzero\nquit\n",
                  told(LONG) + told(f"nonzero: {MANY}", 2) + told(f"fresh EPOCH: {LONG}", 3) + "ok\nok\n"),
-                ("long fields that are right", "new 1 1\nadvance 10 10000 0 1 " + "a" * 300_000 + "\nstate 8 " + "0," * 200_000 + "x\nimage " + "0," * 200_000 + "x\nnonzero\nquit\n",
-                 "ok 29\nrefused 3\nrefused 4\nok 174552\nok\nok\n")):
+                ("long fields that are right",
+                 "new 1 1\nadvance 10 10000 0 1 " + "a" * 300_000 + "".join(f"\n{call} {'0,' * 200_000}x" for call in ("state 8", "split 8", "image")) + "\nnonzero\nquit\n",
+                 "ok 29\nrefused 3\nrefused 4\nrefused 28\nok 174552\nok\nok\n")):
             yield self.verdict(f"a terminal, {says}", self.typed(text), out)
         for says, text, out in (
                 ("lines that are typed", "new 1 1\rx\rnonzero\rquit\r", "ok 29\n" + told(CALL, 2) + "ok\nok\n"), ("the input's end", "new 1 1\n" + END, "ok 29\n"), ("nothing but the input's end", END, ""),

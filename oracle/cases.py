@@ -65,7 +65,8 @@ FIELDS = {
     "payment": "NOW PUBLISHER ACCOUNT RECORD_EPOCH NEXT_INDEX PUBLISHER_ACCOUNT CUSTODY_FLAG POSITIONS", "add": "NOW PUBLISHER ACCOUNT AMOUNT",
     "remove": "NOW PUBLISHER ACCOUNT AMOUNT STATE", "create-slash-event": "NOW PUBLISHER INDEX",
     "slash": "NOW PUBLISHER ACCOUNT RECORD_EPOCH NEXT_INDEX INDEX EVENT_EPOCH LOCKED PREUNLOCKING", "fee": "FEE",
-    "stake-account": "PUBLISHER SIGNER AUTHORITY OLD OLD_OWNER OLD_POSITIONS NEW NEW_POSITIONS", "state": "EPOCH POSITION", "show": "",
+    "stake-account": "PUBLISHER SIGNER AUTHORITY OLD OLD_OWNER OLD_POSITIONS NEW NEW_POSITIONS", "state": "EPOCH POSITION",
+    "split": "REWARD WEIGHTS", "show": "",
     "help": "CALL", "quit": "",
 }
 FEW, MANY, NUMBER, LARGE, KEY = "a field too few", "a field too many", "not a number", "a number too large", "not a key"

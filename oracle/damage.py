@@ -5,12 +5,13 @@ import random
 
 import cases
 import cases_changes
+import cases_split
 import cases_state
 import forms
 import journal
 import levels
 import spelling
-from forms import CALLS, IMAGE_ROOM, ITEM, MESSAGE_ROOM, PATH_ROOM, POSITIONS_ROOM
+from forms import CALLS, IMAGE_ROOM, ITEM, MESSAGE_ROOM, PATH_ROOM, POSITIONS_ROOM, WEIGHTS_ROOM
 
 ROOT = os.path.dirname(journal.HERE)
 SIZES = [(1, 1), (2, 4), (4, 4), (3, 7), (16, 52)]
@@ -19,7 +20,7 @@ MOST = 60_000           # bytes of a right journal, but for one in fifty
 BYTES = b"\0\t\n\r #,-+.09afAFgx\x7f\x80\xc3\xff"
 NUMBERS = [0, 1, 2, 10, 52, 53, 1_024, 1_025, 2**63 - 1, 2**63, 2**64 - 1, 2**64, 2**64 + 1, 10**20 - 1, 10**20, 10**25]
 NO_NUMBERS = [b"-1", b"+1", b"1.", b"0x1", b"1e3", b"x", b"-", b"--", b"none", b"1,", b"\xc2\xb2", b"1\t", b"1\r", b"\0", b"18446744073709551616x", b"1_0"]
-WRONG_LINES = [line.encode() for line, _ in cases.WRONG_LINES + cases_changes.WRONG_LINES + cases_state.WRONG_LINES if len(line) < 100_000]
+WRONG_LINES = [line.encode() for by_hand in (cases, cases_changes, cases_state, cases_split) for line, _ in by_hand.WRONG_LINES if len(line) < 100_000]
 NAMES = b"pool three none odd long short link nowhere folder missing other pool.new a \xff\xfe . .. x\0y".split()
 NAMES += [b"n" * length for length in (200, *range(239, 250), 255, 256)]       # up to where the second name gets too long, whatever the process's number
 BAD_BYTES = b"gGx-,.\r\t\0\x7f\xff"      # none is a digit
@@ -118,16 +119,23 @@ class Damage:
         key = [b"0x" + self.digits(64)] if self.r.random() < .4 else [str(n).encode() for n in self.r.choices(NUMBERS[:11], k=4)]
         return b",".join([*(str(word).encode() for word in words), *key])
 
+    def weights(self):
+        """Of a sum that fits, up to one more than the library accepts; the last four at times as a key."""
+        items = [str(self.r.getrandbits(self.r.choice([1, 8, 57]))).encode() for _ in range(self.r.choice([1, 2, 5, WEIGHTS_ROOM - 1, WEIGHTS_ROOM]))]
+        if self.r.random() < .3:
+            items[-4:] = [b"0x" + self.digits(64)]
+        return b",".join(items)
+
     def field(self, name):
         """One for a field of this name, right or not."""
         if self.r.random() > self.care + .2:
             name = self.r.choice(["P", "CAPS", "STATE", "PATH", "ACCOUNT", "POSITIONS"])
         if name == "POSITION" and self.r.random() < .7:
             return self.position()
-        if name in forms.POSITIONS:
-            return self.list(POSITIONS_ROOM)
-        if name == "WORDS":
-            return self.list(IMAGE_ROOM if self.r.random() < .1 else 100)
+        if name == "WEIGHTS" and self.r.random() < .5:
+            return self.weights()
+        if name in forms.LISTS:
+            return self.list(100 if name == "WORDS" and self.r.random() > .1 else forms.LISTS[name])
         if name == "PATH":
             return self.r.choice([*NAMES, b"p" * self.r.choice([4_095, 4_096, PATH_ROOM, PATH_ROOM + 1])])
         if name == "CALL":
@@ -207,9 +215,11 @@ class Damage:
             lambda: b"image " + self.long_field(),
             lambda: b" ".join([b"state", self.number(), self.position()]),
             lambda: b"state 1 " + self.long_list(POSITIONS_ROOM),
+            lambda: b" ".join([b"split", self.number(), self.weights()]),
+            lambda: b"split 1 " + self.long_list(WEIGHTS_ROOM),
             lambda: b"help " + self.field("CALL"),
-            lambda: self.r.choice([b"load ", b"save ", b"fresh ", b"fee ", b"help ", b"remove 1 ", b"state ", b"remove 1 %s %s 1 " % (self.digits(64), self.digits(64))]) + self.long_field() +
-            self.r.choice([b"", b"\r"]),
+            lambda: self.r.choice([b"load ", b"save ", b"fresh ", b"fee ", b"help ", b"remove 1 ", b"state ", b"split ", b"split 1 ",
+                                   b"remove 1 %s %s 1 " % (self.digits(64), self.digits(64))]) + self.long_field() + self.r.choice([b"", b"\r"]),
             lambda: self.long_field() + self.r.choice([b"", b"\r"]),
         ])()
 

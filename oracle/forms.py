@@ -6,7 +6,7 @@ from typing import NamedTuple
 
 import model
 import operations
-from image import IMAGE_ROOM, MESSAGE_ROOM, POSITIONS_ROOM
+from image import IMAGE_ROOM, MESSAGE_ROOM, POSITIONS_ROOM, WEIGHTS_ROOM
 
 JOURNAL = os.path.join(os.path.dirname(os.path.dirname(os.path.abspath(__file__))), "docs/JOURNAL.md")
 LARGEST = IMAGE_ROOM - 1    # words of the largest image
@@ -16,7 +16,8 @@ NAME = 255          # the most bytes of a file's name, the system's
 FOLDER = None       # stands for a folder among files
 KEYS = "PUBLISHER ACCOUNT SIGNER AUTHORITY".split()
 KEYS_OR_NONE = "PUBLISHER_ACCOUNT OLD OLD_OWNER NEW".split()
-POSITIONS = "POSITIONS POSITION OLD_POSITIONS NEW_POSITIONS".split()
+# Word lists, with how much of each is kept.
+LISTS = {**dict.fromkeys("POSITIONS POSITION OLD_POSITIONS NEW_POSITIONS".split(), POSITIONS_ROOM), "WORDS": IMAGE_ROOM, "WEIGHTS": WEIGHTS_ROOM}
 CALL, FEW, MANY, LONG, INPUT = "an unknown call", "a field too few", "a field too many", "a field too long", "the input can't be read"
 NUMBER, LARGE, KEY, STATE, MESSAGE, LONG_PATH = "not a number", "a number too large", "not a key", "not a state", "not a message", "a path too long"
 READ, WRITTEN, THROUGH = "the file can't be read", "the file can't be written", "the folder can't be written through"
@@ -140,8 +141,8 @@ def words(field, room, returns):
 
 def read(name, field, returns):
     """A field by the name that the table gives it, with how many carriage returns stand directly behind it at the line's end."""
-    if name in POSITIONS or name == "WORDS":
-        return words(field, IMAGE_ROOM if name == "WORDS" else POSITIONS_ROOM, returns)
+    if name in LISTS:
+        return words(field, LISTS[name], returns)
     if name == "CAPS":
         return message(field)
     if len(field) + returns > ITEM:

@@ -9,6 +9,7 @@ import random
 import model
 from image import IMAGE_ROOM, MESSAGE_ROOM
 from model import HALF, WORD, Advance
+from splits import Splits
 from states import States
 
 EDGES = [0, 1, 2, HALF - 1, HALF, HALF + 1, WORD - 2, WORD - 1]
@@ -66,6 +67,7 @@ class Generator:
         self.r = random.Random(f"{seed} {p} {e} {seconds} {unlocking}")
         self.tables = random.Random(f"{seed} {p} {e} {seconds} {unlocking} show")
         self.states = States(journal, f"{seed} {p} {e} {seconds} {unlocking}", unlocking)
+        self.splits = Splits(journal, f"{seed} {p} {e} {seconds} {unlocking}")
         self.p, self.e, self.seconds, self.unlocking = p, e, seconds, unlocking
         self.most_now = (HALF - 1) // seconds if seconds else HALF - 1
         self.keys = keys(self.r, p + 4)

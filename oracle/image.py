@@ -5,8 +5,8 @@ M = 1_000_000
 WORD = 2**64
 HALF = 2**63
 MOST_POSITIONS = 256
-# What is kept of a long field, one more than the library accepts: a message's bytes, the words of positions and of an image.
-MESSAGE_ROOM, POSITIONS_ROOM, IMAGE_ROOM = 40_972, 9 * (MOST_POSITIONS + 1), 174_552
+# What is kept of a long field, one more than the library accepts: a message's bytes, the words of positions, of an image and of weights.
+MESSAGE_ROOM, POSITIONS_ROOM, IMAGE_ROOM, WEIGHTS_ROOM = 40_972, 9 * (MOST_POSITIONS + 1), 174_552, 65
 ZERO_KEY = bytes(32)
 
 

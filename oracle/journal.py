@@ -15,13 +15,17 @@ MOST_EPOCHS = 100_000       # the oracle's, driver/checks.rs
 # Who decides the expected answer.
 RUST = "the Rust"
 OUTSIDE = "the model: outside"      # the oracle must answer `outside`
+PLAIN = "the model: a split"        # the Rust has no such call; in the driver a plain function stands for it, which must answer the same
 # What docs/DIFFERENCES.md lists: the oracle must answer as the model says the Rust does.
 COUNT, RATE, DRAINED = LISTED = [f"the model: {place}" for place in model.LISTED]
 APART = "the model: behind those"   # the image after one of those, before both have the same again
 WRONG = "the journal's forms"       # a wrong line; the oracle's wording is its own behind the colon
 
-# The calls that can be refused, and the level that each came with. A position's state is asked of no pool; it came with `remove`, which takes it.
-CALLS = {"fresh": "watch", "advance": "watch", "forecast": "watch", "payment": "pay", **dict.fromkeys(operations.NAMES, "operate"), "state": "operate"}
+# The calls that can be refused, and the level that each came with. A position's state is asked of no pool; it came with `remove`, which takes it. A split
+# is asked of none either, and came with no level: it is counted by itself.
+CALLS = {"fresh": "watch", "advance": "watch", "forecast": "watch", "payment": "pay", **dict.fromkeys(operations.NAMES, "operate"), "state": "operate",
+         "split": "split"}
+POOLLESS = ("state", "split")
 
 
 def name_of(text):
@@ -50,7 +54,7 @@ class Journal:
         self.site = model.Site()
         self.lines = []
         self.calls = 0          # lines of a pool that can be refused
-        self.states = 0         # of none: these come on top of the calls that a journal is to have
+        self.poolless = 0       # of none: these come on top of the calls that a journal is to have
         self.apart = False
 
     def comment(self, text):
@@ -59,6 +63,8 @@ class Journal:
     def decides(self, name, answer):
         if name in ("show", "help"):
             return OUTSIDE
+        if name == "split":
+            return PLAIN
         if name in CALLS and answer in ("refused 1", "refused 3", "refused 4", "refused 5"):
             return OUTSIDE
         if (answer == "refused 2" and name != "fresh") or self.site.passed > MOST_EPOCHS:
@@ -69,12 +75,12 @@ class Journal:
 
     def wanted(self, answer, decides):
         """What the oracle must answer."""
-        return self.site.rust if decides in LISTED else {RUST: answer, OUTSIDE: "outside", APART: None}[decides]
+        return self.site.rust if decides in LISTED else {RUST: answer, PLAIN: answer, OUTSIDE: "outside", APART: None}[decides]
 
     def say(self, text):
         """One more line; answers what the model answers. A call finds the same image on both sides."""
         name, *fields = text.split(None, 1)
-        of_pool = name in CALLS and name != "state"
+        of_pool = name in CALLS and name not in POOLLESS
         if self.apart and of_pool:
             self.put(self.site.words)
             self.lines[-1] = self.lines[-1]._replace(again=True)
@@ -82,7 +88,7 @@ class Journal:
             self.apart = False
         answer = forms.helped(*text.split()[1:]) if name == "help" else self.site.answer(text)
         self.calls += of_pool
-        self.states += name == "state"
+        self.poolless += name in POOLLESS
         decides = self.decides(name, answer)
         wanted = self.wanted(answer, decides)
         self.lines.append(Line(text, answer, decides, wanted))

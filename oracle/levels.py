@@ -15,13 +15,14 @@ LEVELS = {
 }
 
 
-def write(journal, level, seed, size, settings, calls, long=True, states=True):
+def write(journal, level, seed, size, settings, calls, long=True, poolless=True):
     """A journal of at least so many calls on pools of one size, under one epoch length and unlocking length; at will without long lists. Between the
-    lists come positions' states, at will none: they need no pool, and so come at every level."""
+    lists come positions' states and splits, at will none: they need no pool, and so come at every level."""
     kind, lists = LEVELS[level]
     generator = kind(journal, seed, *size, *settings)
     weights, lists = zip(*(pair for pair in lists if long or pair[1] is not Stakers.staking_list))
     while journal.calls < calls:
         generator.r.choices(lists, weights)[0](generator)
-        if states:
+        if poolless:
             generator.states.some()
+            generator.splits.some()

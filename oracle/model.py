@@ -1,7 +1,7 @@
 """Document 01's calls on whole numbers, and the journal's lines around them: fresh, advance, forecast, payment and a position's state; the
-changes of item 9 are operations.py's, the image is image.py's.
+changes of item 9 are operations.py's, the image is image.py's, a reward's split among clients is split.py's.
 
-Written from the words of document 01 and of document 02's requests [8] and [9]. It answers where the Rust can't be asked (checks 1 to 5, very many
+Written from the words of document 01 and of document 02's requests [1], [8] and [9]. It answers where the Rust can't be asked (checks 1 to 5, very many
 passed epochs), and is compared with the Rust wherever that can be asked. Where docs/DIFFERENCES.md lists
 that the Rust answers otherwise, it has both answers, the documents' and the Rust's.
 """
@@ -10,7 +10,8 @@ from typing import NamedTuple, Optional
 
 import operations
 import show
-from image import (HALF, IMAGE_ROOM, M, MOST_POSITIONS, WORD, ZERO_KEY, Pool, Refused, in_range, length, message_of, numbers_of,
+import split
+from image import (HALF, IMAGE_ROOM, M, MOST_POSITIONS, WEIGHTS_ROOM, WORD, ZERO_KEY, Pool, Refused, in_range, length, message_of, numbers_of,
                    positions_of, refuse, words_of)
 
 MOST_Y = 10_000
@@ -347,6 +348,8 @@ class Site:
             return self.payment(payment_of(fields, self.unlocking))
         if name == "state":
             return self.state(int(fields[0]), numbers_of(fields[1]))
+        if name == "split":
+            return split.parts(int(fields[0]), numbers_of(fields[1], WEIGHTS_ROOM))
         if name in operations.NAMES:
             return self.change(name, operations.given(name, fields))
         if name == "nonzero":

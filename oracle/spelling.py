@@ -4,12 +4,14 @@ import collections
 import random
 
 import journal
-from image import IMAGE_ROOM, MESSAGE_ROOM, POSITIONS_ROOM
+from image import IMAGE_ROOM, MESSAGE_ROOM, POSITIONS_ROOM, WEIGHTS_ROOM
 
 # Behind what is kept of a field nothing is looked at.
 BEHIND = ["0", ",", ",0", ",x", ",,,", ",0x", "0x12", "\x7f", "-", ",18446744073709551616" * 9, ",1" * 70_000, "f" * 140_000]
-LISTS = {"payment": [8], "state": [2], "stake-account": [6, 8], "image": [1]}       # the places of fields
-KEYS, RETURNS, MESSAGES, POSITIONS, IMAGES = WAYS = ["keys in a list", "a carriage return", "a longer message", "longer positions", "a longer image"]
+LISTS = {"payment": [8], "state": [2], "stake-account": [6, 8], "image": [1], "split": [2]}     # the places of fields
+KEYS, RETURNS, MESSAGES, POSITIONS, IMAGES, WEIGHTS = WAYS = ["keys in a list", "a carriage return", "a longer message", "longer positions", "a longer image",
+                                                              "longer weights"]
+ROOMS = {"image": (IMAGE_ROOM, IMAGES), "split": (WEIGHTS_ROOM, WEIGHTS)}       # other lists are of positions
 
 
 def digits(r, words):
@@ -35,12 +37,13 @@ class Spelled(journal.Journal):
         self.ways[KEYS] += any(item.startswith("0x") for item in items)
         return ",".join(items)
 
-    def list(self, field, of_positions):
+    def list(self, field, name):
         """What is behind its room begins with a comma."""
-        if field.count(",") >= (POSITIONS_ROOM if of_positions else IMAGE_ROOM) - 1:
-            self.ways[POSITIONS if of_positions else IMAGES] += 1
+        room, way = ROOMS.get(name, (POSITIONS_ROOM, POSITIONS))
+        if field.count(",") >= room - 1:
+            self.ways[way] += 1
             return field + "," + self.r.choice(BEHIND)
-        return self.keys(field, of_positions) if self.r.random() < .4 else field
+        return self.keys(field, name not in ROOMS) if self.r.random() < .4 else field
 
     def message(self, field):
         if len(field) < 2 * MESSAGE_ROOM:
@@ -52,7 +55,7 @@ class Spelled(journal.Journal):
         """The line in another way, or as it is."""
         name, *fields = text.split(" ")
         for place in (at - 1 for at in LISTS.get(name, []) if at <= len(fields)):
-            fields[place] = self.list(fields[place], name != "image")
+            fields[place] = self.list(fields[place], name)
         if name in ("advance", "forecast"):
             fields[4] = self.message(fields[4])
         gap, end = self.r.choice([" "] * 30 + ["   "]), self.r.choice([""] * 20 + ["\r", " ", "  \r"])

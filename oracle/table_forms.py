@@ -2,7 +2,7 @@
 import forms
 from by_hand import A, ACCOUNT, B, STAKE, payment, pool, seats, stake, stake_account
 from cases import DIGITS, FOUR, NO_ROWS, with_field
-from image import IMAGE_ROOM, MESSAGE_ROOM, POSITIONS_ROOM
+from image import IMAGE_ROOM, MESSAGE_ROOM, POSITIONS_ROOM, WEIGHTS_ROOM
 from model import ZERO_KEY
 from states import line as state
 
@@ -53,6 +53,8 @@ def keys_in_lists(t):
         t.say("nonzero")
     for words in range(1, 5):
         t.say(f"state 8 {'0,' * (POSITIONS_ROOM - words)}0x{DIGITS}")
+        t.say(f"split 8 {'0,' * (WEIGHTS_ROOM - words)}0x{DIGITS}")
+    t.say(f"split 8 {'0,' * 60}0x{DIGITS}")
 
 
 def long_fields(t):
@@ -62,6 +64,7 @@ def long_fields(t):
     kept = ",".join(["0"] * POSITIONS_ROOM)
     t.say(with_field(payment(), 8, kept + ","))
     t.say(f"state 8 {kept},18446744073709551616")
+    t.say(f"split 8 {'1,' * WEIGHTS_ROOM}x,,0x1")
     t.say(with_field(with_field(stake_account(ACCOUNT, old=STAKE, owner=B), 6, f"{kept},x,,0x1"), 8, f"{kept},0x{DIGITS}"))
     t.say(f"forecast 10 10000 0 1 {NO_ROWS.ljust(2 * MESSAGE_ROOM, 'f')}g-,\x7f")
     t.say(f"forecast 10 10000 0 1 {NO_ROWS}")

@@ -7,7 +7,7 @@ use {
             not_matching, payment, slash,
         },
         case::{case, Case},
-        inputs::strangers,
+        inputs::{strangers, weights},
         journal::Call,
         pools::{publishers, Pools, LAST, P},
     },
@@ -95,6 +95,25 @@ fn changes(pool: &[u64]) -> Vec<Case<'_>> {
     ]
 }
 
+fn splits(pool: &[u64]) -> Vec<Case<'_>> {
+    let among = |name, reward, weights| Case {
+        note: "the Rust has no such call; timed is a plain function, oracle/driver/split.rs",
+        ..case(name, pool, Call::Split { reward, weights })
+    };
+    let (few, many, wide) = (weights(4, 1 << 32), weights(64, 1 << 32), weights(64, 1 << 58));
+    let sum: u64 = many.iter().sum();
+    vec![
+        // a reward of 32 bits; 32 units are left
+        among("split, 64 weights of 32 bits", 4_000_000_004, many.clone()),
+        // a reward of 64 bits; 32 units are left
+        among("split, 64 weights of 58 bits", u64::MAX, wide),
+        // a reward of 48 bits, one below a multiple of the weights' sum, so that all but one client get a unit more
+        among("split, 64 weights, 63 units left", 1_000 * sum - 1, many),
+        // a reward of 32 bits; 2 units are left
+        among("split, 4 weights of 32 bits", 4_000_000_004, few),
+    ]
+}
+
 /// Advances of 1,000,000 and of 52 epochs.
 pub fn passing(pools: &Pools) -> [Case<'_>; 2] {
     let over = |epochs| Call::Advance(advance(epochs, publishers(&pools.mixed, P)));
@@ -109,5 +128,8 @@ pub fn all(pools: &Pools) -> Vec<Case<'_>> {
     all.extend(forecasts(pool));
     all.extend(payments(pool));
     all.extend(changes(pool));
+    if !cfg!(lacks = "pool_mirror_split") {
+        all.extend(splits(pool));
+    }
     all
 }

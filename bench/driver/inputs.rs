@@ -18,6 +18,17 @@ pub fn strangers() -> Vec<Pubkey> {
     (0..P).map(|_| numbers.key()).collect()
 }
 
+/// Weights of clients, none of them 0.
+pub fn weights(count: usize, below: u64) -> Vec<u64> {
+    let mut numbers = Numbers(9);
+    (0..count).map(|_| numbers.between(1, below)).collect()
+}
+
+/// Weights for so many calls, each of which has them begin with the next client: so no call in a row has its remainders in the order of the one before.
+pub fn turning(weights: &[u64], calls: u64) -> Vec<u64> {
+    weights.iter().copied().cycle().take(weights.len() + calls as usize).collect()
+}
+
 /// A message of epoch `now` with a row for each key.
 pub fn message(now: u64, mut keys: Vec<Pubkey>) -> Vec<u8> {
     let mut numbers = Numbers(2);

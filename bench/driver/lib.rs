@@ -23,6 +23,8 @@ mod pools;
 #[allow(dead_code)]
 #[path = "../../oracle/driver/refusal.rs"]
 mod refusal;
+#[path = "../../oracle/driver/split.rs"]
+mod split;
 mod timed;
 
 use {

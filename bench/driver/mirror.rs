@@ -11,25 +11,26 @@ use {
     std::hint::black_box,
 };
 
-/// The functions of both libraries, as values: the code that runs them is the same for both.
+/// The functions of both libraries, as values: the code that runs them is the same for both. One that came later says so, and is in neither where the
+/// earlier library lacks it.
 macro_rules! libraries {
-    ($(fn $name:ident($($value:ident: $kind:ty),* $(,)?) -> u64;)*) => {
+    ($($(#[$later:meta])? fn $name:ident($($value:ident: $kind:ty),* $(,)?) -> u64;)*) => {
         #[derive(Clone, Copy)]
         pub struct Library {
-            $($name: unsafe extern "C" fn($($kind),*) -> u64,)*
+            $($(#[$later])? $name: unsafe extern "C" fn($($kind),*) -> u64,)*
         }
 
         mod now {
-            extern "C" { $(pub fn $name($($value: $kind),*) -> u64;)* }
+            extern "C" { $($(#[$later])? pub fn $name($($value: $kind),*) -> u64;)* }
         }
-        pub const NOW: Library = Library { $($name: now::$name,)* };
+        pub const NOW: Library = Library { $($(#[$later])? $name: now::$name,)* };
 
         #[cfg(before)]
         mod before {
-            extern "C" { $(#[link_name = concat!("before_", stringify!($name))] pub fn $name($($value: $kind),*) -> u64;)* }
+            extern "C" { $($(#[$later])? #[link_name = concat!("before_", stringify!($name))] pub fn $name($($value: $kind),*) -> u64;)* }
         }
         #[cfg(before)]
-        pub const BEFORE: Library = Library { $($name: before::$name,)* };
+        pub const BEFORE: Library = Library { $($(#[$later])? $name: before::$name,)* };
     };
 }
 
@@ -74,6 +75,8 @@ libraries! {
         old_positions: *const u64, old_positions_len: usize, has_new: u64, new_account: *const [u64; 4],
         new_positions: *const u64, new_positions_len: usize,
     ) -> u64;
+    #[cfg(not(lacks = "pool_mirror_split"))]
+    fn pool_mirror_split(reward: u64, weights: *const u64, weights_len: usize, parts: *mut u64, parts_len: usize) -> u64;
 }
 
 /// The refusal's number where the call is refused.
@@ -224,6 +227,19 @@ fn stake_account(library: &Library, from: &Start, s: &SetStakeAccount) -> Asked<
     })
 }
 
+/// Each call of a run has the weights begin with the next client.
+#[cfg(not(lacks = "pool_mirror_split"))]
+fn split(library: &Library, from: &Start, reward: u64, weights: &[u64]) -> Asked<Run> {
+    let (turning, mut parts) = (crate::inputs::turning(weights, from.calls), weights.to_vec());
+    let (_, nanos) = from.timed(|j| {
+        let weights = &turning[j as usize..][..weights.len()];
+        accepted(unsafe {
+            (library.pool_mirror_split)(reward, weights.as_ptr(), weights.len(), parts.as_mut_ptr(), parts.len())
+        })
+    })?;
+    Ok(Run { answer: parts, nanos })
+}
+
 /// Calls in a row. Of two libraries the functions are read from the same place; one alone is called directly.
 pub fn run(library: &Library, from: &Start, call: &Call) -> Asked<Run> {
     let library = if cfg!(before) { &black_box(*library) } else { &NOW };
@@ -240,6 +256,10 @@ pub fn run(library: &Library, from: &Start, call: &Call) -> Asked<Run> {
         Call::Slash(s) => slash(library, from, s),
         Call::Fee(f) => fee(library, from, *f),
         Call::StakeAccount(s) => stake_account(library, from, s),
+        #[cfg(not(lacks = "pool_mirror_split"))]
+        Call::Split { reward, weights } => split(library, from, *reward, weights),
+        #[cfg(lacks = "pool_mirror_split")]
+        Call::Split { .. } => unreachable!("no case asks for what the earlier library lacks"),
         Call::State { .. } => unreachable!("no case asks for a position's state: it is no call on a pool"),
     }
 }

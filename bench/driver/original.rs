@@ -5,9 +5,11 @@ use {
         accounts::{caps, context, positions, set_now},
         derived,
         handed,
+        inputs::turning,
         journal::{Advance, Call, Change, Payment, SetStakeAccount, Slash, StakeAccount},
         pools::{words, words_mut},
-        refusal::{guard, Asked},
+        refusal::{guard, Asked, Stop},
+        split,
         timed::{memory, Run, Start},
     },
     anchor_lang::{given, prelude::Pubkey},
@@ -171,6 +173,18 @@ fn stake_account(from: &Start, s: &SetStakeAccount) -> Asked<Run> {
     Ok(plain(nanos))
 }
 
+/// The Rust has none: a plain function stands for it. Each call of a run has the weights begin with the next client.
+fn split(from: &Start, reward: u64, weights: &[u64]) -> Asked<Run> {
+    let (turning, mut parts) = (turning(weights, from.calls), weights.to_vec());
+    let timed = guard(|| {
+        Ok(from.timed(|j| {
+            split::parts(black_box(reward), &turning[j as usize..][..weights.len()], black_box(&mut parts))
+        }))
+    })?;
+    let (_, nanos) = timed.map_err(Stop::Number)?;
+    Ok(Run { answer: parts, nanos })
+}
+
 /// Calls in a row. The pool is as they find it already, for what is worked out beside them.
 pub fn run(from: &Start, call: &Call) -> Asked<Run> {
     match call {
@@ -186,6 +200,7 @@ pub fn run(from: &Start, call: &Call) -> Asked<Run> {
         Call::Slash(s) => slash(from, s),
         Call::Fee(f) => fee(from, *f),
         Call::StakeAccount(s) => stake_account(from, s),
+        Call::Split { reward, weights } => split(from, *reward, weights),
         Call::State { .. } => unreachable!("no case asks for a position's state: it is no call on a pool"),
     }
 }

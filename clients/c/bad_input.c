@@ -1,5 +1,6 @@
-/* Bad input for each of the eleven functions. A case is a good input with one fault and the number that must be returned; it is tried alone, and with
- * all faults that stand behind it in the order of the refusals. Each time every word of the input, pool, record and answer included, must be as it was.
+/* Bad input for each of the twelve functions. A case is a good input with one fault and the number that must be returned; it is tried alone, and with
+ * all faults that stand behind it in the order of the refusals. Each time every word of the input, pool, record, answer and parts included, must be as it
+ * was.
  * Then input at the limits, which is accepted. The numbers of the cases are the same in clients/rust/bad_input.rs. */
 #include "pool_mirror.h"
 
@@ -8,16 +9,16 @@
 #include <stdlib.h>
 #include <string.h>
 
-enum function { FRESH, ADVANCE, FORECAST, PAYMENT, ADD, REMOVE, POSITION_STATE, CREATE_SLASH_EVENT, SLASH, FEE, STAKE_ACCOUNT, FUNCTIONS };
+enum function { FRESH, ADVANCE, FORECAST, PAYMENT, ADD, REMOVE, POSITION_STATE, CREATE_SLASH_EVENT, SLASH, FEE, STAKE_ACCOUNT, SPLIT, FUNCTIONS };
 static const char *const NAMES[] = {"fresh", "advance", "forecast", "payment", "add", "remove", "position_state", "create_slash_event", "slash", "fee",
-                                    "stake_account"};
+                                    "stake_account", "split"};
 
 #define HALF ((uint64_t)1 << 63)
 #define MAX UINT64_MAX
 #define LEN(list) (sizeof(list) / sizeof *(list))
 
 /* The good image has 2 seats and 4 events; the largest that a case uses would have 1,025 seats. */
-enum { P = 2, E = 4, MOST = 257 * 9, WORDS = POOL_MIRROR_IMAGE_LEN(1025, E), BYTES = 40972, BEFORE = 7777 };
+enum { P = 2, E = 4, MOST = 257 * 9, WORDS = POOL_MIRROR_IMAGE_LEN(1025, E), BYTES = 40972, WEIGHTS = POOL_MIRROR_MAX_WEIGHTS, BEFORE = 7777 };
 enum { OTHERS = 2 + 4 * P, OWN = 2 + 6 * P, ACCOUNTS = 2 + 8 * P, EVENTS = 2 + 12 * P, EVENT = 9 + 3 * P, COUNT = EVENTS + E * EVENT, SLASHES = COUNT + 1 };
 
 /* All arguments of all functions. Words behind a list's length must stay as they were too. */
@@ -37,6 +38,8 @@ struct input {
     size_t old_len;
     uint64_t has_new, new_account[4], new_positions[MOST];
     size_t new_len;
+    uint64_t reward, weights[256 + WEIGHTS], parts[256 + WEIGHTS];
+    size_t weights_len, parts_len;
     uint64_t answer[8];
 };
 
@@ -78,6 +81,23 @@ static void set_position(uint64_t *list, size_t i, uint64_t kind, uint64_t amoun
     set_key(list + 9 * i + 5, publisher);
 }
 
+static void set_lens(struct input *in, size_t weights_len, size_t parts_len) {
+    in->weights_len = weights_len, in->parts_len = parts_len;
+}
+
+/* Three weights and room for three parts. */
+static void set_weights(struct input *in, uint64_t first, uint64_t second, uint64_t third) {
+    in->weights[0] = first, in->weights[1] = second, in->weights[2] = third, set_lens(in, 3, 3);
+}
+
+/* As many of the same, and room for as many parts. */
+static void set_equal(struct input *in, size_t len, uint64_t weight) {
+    set_lens(in, len, len);
+    for (size_t i = 0; i < len; i++) {
+        in->weights[i] = weight;
+    }
+}
+
 /* An input that the function accepts. Each event pays 1 % and the publisher keeps a tenth, so the payment is 1,800 and 200. */
 static void good(enum function f, struct input *in) {
     static const uint64_t junk[4] = {MAX, MAX, MAX, MAX};
@@ -103,6 +123,10 @@ static void good(enum function f, struct input *in) {
     in->has_old = 1, set_key(in->old_account, OWN_KEY), set_key(in->old_owner, OWNER);
     set_position(in->old_positions, 0, 1, 5, 0, 0, A), set_position(in->old_positions, 1, 2, 5, 0, 0, B), in->old_len = 18;
     in->has_new = 1, set_key(in->new_account, NEW), set_position(in->new_positions, 0, 2, 5, 0, 0, C), in->new_len = 9;
+    in->reward = 100, set_equal(in, LEN(in->weights), 1), set_weights(in, 4, 11, 6);
+    for (size_t i = 0; i < LEN(in->parts); i++) {
+        in->parts[i] = BEFORE;
+    }
     for (size_t i = 0; i < LEN(in->answer); i++) {
         in->answer[i] = BEFORE;
     }
@@ -121,10 +145,12 @@ static uint64_t call(enum function f, struct input *in) {
     case REMOVE: return pool_mirror_remove(pool, len, p, e, in->now, in->publisher, in->account, in->amount, in->state);
     case POSITION_STATE: return pool_mirror_position_state(in->now, in->positions, in->positions_len, in->unlocking, in->answer);
     case CREATE_SLASH_EVENT: return pool_mirror_create_slash_event(pool, len, p, e, in->now, in->publisher, in->index, in->answer);
-    case SLASH: return pool_mirror_slash(pool, len, p, e, in->now, in->publisher, in->account, in->record, in->index, in->event_epoch, in->locked, in->preunlocking);
+    case SLASH: return pool_mirror_slash(pool, len, p, e, in->now, in->publisher, in->account, in->record, in->index, in->event_epoch, in->locked,
+                                         in->preunlocking);
     case FEE: return pool_mirror_fee(pool, len, p, e, in->fee);
     case STAKE_ACCOUNT: return pool_mirror_stake_account(pool, len, p, e, in->publisher, in->signer, in->authority, in->has_old, in->old_account, in->old_owner,
                                                          in->old_positions, in->old_len, in->has_new, in->new_account, in->new_positions, in->new_len);
+    case SPLIT: return pool_mirror_split(in->reward, in->weights, in->weights_len, in->parts, in->parts_len);
     default: abort();
     }
 }
@@ -362,6 +388,37 @@ static uint64_t stake_account_fault(struct input *in, int k) {
     }
 }
 
+/* Weights don't add up to more than 64 bits and to 0 at once: 28 is ahead of 29 in the first cases, and of 13 in the others with all behind them. */
+static uint64_t split_fault(struct input *in, int k) {
+    switch (k) {
+    case 0: set_equal(in, WEIGHTS + 1, 0); return 28;
+    case 1: set_weights(in, 0, 0, 0), in->parts_len = 2; return 28;
+    case 2: set_weights(in, 0, 0, 0), in->parts_len = 4; return 28;
+    case 3: set_lens(in, 0, 1); return 28;
+    case 4: set_lens(in, WEIGHTS + 1, WEIGHTS + 1); return 28;
+    case 5: set_lens(in, WEIGHTS + 1, WEIGHTS); return 28;
+    case 6: set_lens(in, WEIGHTS, WEIGHTS + 1); return 28;
+    case 7: set_lens(in, WEIGHTS, WEIGHTS - 1); return 28;
+    /* 64 in eight bits. */
+    case 8: set_lens(in, 256 + WEIGHTS, 256 + WEIGHTS); return 28;
+    case 9: set_lens(in, 3, 2); return 28;
+    case 10: set_lens(in, 3, 4); return 28;
+    case 11: set_lens(in, 3, 0); return 28;
+    /* In 64 bits these come to 0, and the fourth to 5. */
+    case 12: set_weights(in, HALF, HALF, 0); return 13;
+    case 13: set_weights(in, 0, 1, MAX); return 13;
+    case 14: set_weights(in, MAX, MAX, 2); return 13;
+    case 15: set_weights(in, MAX, 1, 5); return 13;
+    case 16: set_equal(in, WEIGHTS, (uint64_t)1 << 58); return 13;
+    case 17: set_weights(in, 0, 0, 0); return 29;
+    case 18: set_weights(in, 0, 0, 0), in->reward = 0; return 29;
+    case 19: set_equal(in, 1, 0); return 29;
+    case 20: set_equal(in, WEIGHTS, 0); return 29;
+    case 21: set_lens(in, 0, 0); return 29;
+    default: return 0;
+    }
+}
+
 static uint64_t fault(enum function f, struct input *in, int k) {
     switch (f) {
     case FRESH: return fresh_fault(in, k);
@@ -374,15 +431,16 @@ static uint64_t fault(enum function f, struct input *in, int k) {
     case SLASH: return slash_fault(in, k);
     case FEE: return fee_fault(in, k);
     case STAKE_ACCOUNT: return stake_account_fault(in, k);
+    case SPLIT: return split_fault(in, k);
     default: abort();
     }
 }
 
 static struct input in, before;
 
-/* The call returns this number. A refused call writes nothing, an accepted one only pool, record and answer. */
+/* The call returns this number. A refused call writes nothing, an accepted one only pool, record, answer and parts. */
 static void expect(enum function f, int k, const char *what, uint64_t number) {
-    static const size_t answers[FUNCTIONS] = {0, 5, 1, 4, 0, 0, 1, 1, 0, 0, 0};
+    static const size_t answers[FUNCTIONS] = {0, 5, 1, 4, 0, 0, 1, 1, 0, 0, 0, 0};
     memcpy(&before, &in, sizeof in);
     uint64_t got = call(f, &in);
     if (got != number) {
@@ -390,9 +448,10 @@ static void expect(enum function f, int k, const char *what, uint64_t number) {
         exit(1);
     }
     if (number == 0) {
-        memcpy(before.pool, in.pool, f == FORECAST || f == POSITION_STATE ? 0 : in.pool_len * sizeof *in.pool);
+        memcpy(before.pool, in.pool, f == FORECAST || f == POSITION_STATE || f == SPLIT ? 0 : in.pool_len * sizeof *in.pool);
         memcpy(before.record, in.record, f == PAYMENT || f == SLASH ? sizeof in.record : 0);
         memcpy(before.answer, in.answer, answers[f] * sizeof *in.answer);
+        memcpy(before.parts, in.parts, f == SPLIT ? in.parts_len * sizeof *in.parts : 0);
     }
     if (memcmp(&before, &in, sizeof in) != 0) {
         printf("%s, case %d, %s: another word changed\n", NAMES[f], k, what);
@@ -490,6 +549,43 @@ static void drained(void) {
     }
 }
 
+static void expect_parts(const char *what, const uint64_t *parts) {
+    limit(SPLIT, what);
+    if (memcmp(in.parts, parts, in.parts_len * sizeof *parts) != 0) {
+        printf("split, %s: other parts\n", what);
+        exit(1);
+    }
+}
+
+/* Rewards split by weights that add up to 2^64 - 1 and less, by one weight and by 64, and each part. */
+static void splits(void) {
+    static const struct {
+        const char *what;
+        uint64_t reward, weights[3], parts[3];
+    } cases[] = {
+        {"the sum of the weights", MAX, {HALF, HALF - 1, 0}, {HALF, HALF - 1, 0}},
+        {"one less than the sum", MAX - 1, {HALF, HALF - 1, 0}, {HALF - 1, HALF - 1, 0}}, /* remainders 2^63 - 1 and 2^63 */
+        {"one unit", 1, {1, 1, MAX - 2}, {0, 0, 1}},
+        {"two units left, three equal remainders", MAX - 1, {1, 1, 1}, {MAX / 3, MAX / 3, MAX / 3 - 1}},
+        {"weights of 0", MAX, {0, 1, 0}, {0, MAX, 0}},
+        {"no reward", 0, {4, 11, 6}, {0, 0, 0}},
+    };
+    static uint64_t parts[WEIGHTS];
+    for (size_t i = 0; i < LEN(cases); i++) {
+        const uint64_t *weights = cases[i].weights;
+        good(SPLIT, &in), in.reward = cases[i].reward, set_weights(&in, weights[0], weights[1], weights[2]);
+        expect_parts(cases[i].what, cases[i].parts);
+    }
+    parts[0] = MAX;
+    good(SPLIT, &in), in.reward = MAX, set_equal(&in, 1, 1), expect_parts("one weight", parts);
+    good(SPLIT, &in), in.reward = MAX, set_equal(&in, WEIGHTS, (uint64_t)1 << 58), in.weights[WEIGHTS - 1]--;
+    expect_parts("64 weights and the sum of them", in.weights);
+    for (size_t i = 0; i < WEIGHTS; i++) {
+        parts[i] = i < WEIGHTS - 1;
+    }
+    good(SPLIT, &in), in.reward = WEIGHTS - 1, set_equal(&in, WEIGHTS, 1), expect_parts("64 equal weights and 63 units", parts);
+}
+
 /* Input at the limits. */
 static void limits(void) {
     static uint64_t full[POOL_MIRROR_IMAGE_LEN(1024, 52)];
@@ -540,7 +636,8 @@ int main(void) {
     limits();
     drained();
     states();
+    splits();
     printf("at the limits       %3u accepted\n", accepted);
-    printf("bad_input: 11 functions, %u refusals, every word as it was\n", tried);
+    printf("bad_input: 12 functions, %u refusals, every word as it was\n", tried);
     return 0;
 }

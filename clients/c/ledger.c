@@ -21,6 +21,13 @@ struct positions {
     size_t len;
 };
 
+/* The clients who share an account: names, weights, and what the book has for each. */
+struct clients {
+    const char *names[POOL_MIRROR_MAX_WEIGHTS];
+    uint64_t weights[POOL_MIRROR_MAX_WEIGHTS], booked[POOL_MIRROR_MAX_WEIGHTS];
+    size_t len;
+};
+
 struct book {
     uint64_t pool[LEN];
     uint64_t now, custody, set_aside, paid;
@@ -172,9 +179,9 @@ static void advance(struct book *b, uint64_t now, const struct named *publishers
 }
 
 /* `own` is the publisher's stake account, NULL where it has none. Pool and record are copied before the call: they stay as they were where the token
- * side refuses what is to be moved. */
-static void payment(struct book *b, const struct named *publisher, const struct named *own, const struct named *account, uint64_t record[2],
-                    const struct positions *list) {
+ * side refuses what is to be moved. Returns what the account was paid, 0 where the payment is not made. */
+static uint64_t payment(struct book *b, const struct named *publisher, const struct named *own, const struct named *account, uint64_t record[2],
+                        const struct positions *list) {
     uint64_t pool[LEN], next[2], paid[4];
     memcpy(pool, b->pool, sizeof pool);
     memcpy(next, record, sizeof next);
@@ -183,7 +190,8 @@ static void payment(struct book *b, const struct named *publisher, const struct 
                                     list->words, list->len, UNLOCKING, paid));
     check(b, next[0] == b->now, "the record is not in the current epoch");
     /* The tokens that leave custody; that the answer says the same is checked in the entry. */
-    if (lowered(b, paid[0] + (own != NULL ? paid[1] : 0))) {
+    int made = lowered(b, paid[0] + (own != NULL ? paid[1] : 0));
+    if (made) {
         memcpy(b->pool, pool, sizeof pool);
         memcpy(record, next, sizeof next);
         b->paid += paid[0] + paid[1];
@@ -193,6 +201,29 @@ static void payment(struct book *b, const struct named *publisher, const struct 
         ANSWER("not made: custody -" N, paid[2]);
     }
     entry(b);
+    return made ? paid[0] : 0;
+}
+
+/* What an account was paid is booked to the clients who share it, each one's part by its weight. */
+static void split(struct book *b, const struct named *publisher, const struct named *account, uint64_t reward, struct clients *clients) {
+    uint64_t parts[POOL_MIRROR_MAX_WEIGHTS], left = reward;
+    CALL("split %s %s " N, publisher->name, account->name, reward);
+    accepted(b, pool_mirror_split(reward, clients->weights, clients->len, parts, clients->len));
+    b->answer[0] = '\0';
+    for (size_t i = 0; i < clients->len; i++) {
+        size_t told = strlen(b->answer);
+        check(b, parts[i] <= left, "the parts are more than the reward");
+        left -= parts[i];
+        clients->booked[i] += parts[i];
+        snprintf(b->answer + told, sizeof b->answer - told, "%s%s " N, i == 0 ? "" : ", ", clients->names[i], parts[i]);
+    }
+    check(b, left == 0, "the parts are less than the reward");
+    entry(b);
+}
+
+static void shared_payment(struct book *b, const struct named *publisher, const struct named *own, const struct named *account, uint64_t record[2],
+                           const struct positions *list, struct clients *clients) {
+    split(b, publisher, account, payment(b, publisher, own, account, record, list), clients);
 }
 
 static void add(struct book *b, const struct named *publisher, const struct named *account, uint64_t amount) {
@@ -271,6 +302,7 @@ int main(void) {
     const uint64_t caps[MAX_ROWS] = {1000000, 300000, 100000};
     uint64_t own_a[2] = {0, 0}, sam_a[2] = {0, 0}, sam_b[2] = {0, 0}, eve_a[2] = {0, 0};
     struct positions owns = {{0}, 0}, sams = {{0}, 0}, eves = {{0}, 0};
+    struct clients clients = {{"ann", "bob", "cid"}, {4, 11, 6}, {0}, 3};
     static struct book book;
 
     printf("%5s  %-30s  %-40s %8s %10s %8s %10s\n", "epoch", "call", "answer", "custody", "set aside", "paid", "claimable");
@@ -292,12 +324,12 @@ int main(void) {
     advance(&book, 101, p, caps, 2);
     advance(&book, 103, p, caps, 2);
 
-    /* Custody covers less than half of epoch 103's rewards: y is lowered. */
+    /* Custody covers less than half of epoch 103's rewards: y is lowered. Three clients share sam's account. */
     deposit(&book, 4999);
     advance(&book, 104, p, caps, 2);
-    payment(&book, a, &own, &sam, sam_a, &sams);
+    shared_payment(&book, a, &own, &sam, sam_a, &sams, &clients);
     payment(&book, a, &own, &own, own_a, &owns);
-    payment(&book, b, NULL, &sam, sam_b, &sams);
+    shared_payment(&book, b, NULL, &sam, sam_b, &sams, &clients);
     payment(&book, a, &own, &eve, eve_a, &eves);
 
     /* eve takes a third back; then a tenth of all stake with A is slashed. */
@@ -314,7 +346,7 @@ int main(void) {
     position(&eves, a, 90000, 101, 105);
     deposit(&book, 50000);
     advance(&book, 105, p, caps, 2);
-    payment(&book, a, &own, &sam, sam_a, &sams);
+    shared_payment(&book, a, &own, &sam, sam_a, &sams, &clients);
     payment(&book, a, &own, &eve, eve_a, &eves);
 
     /* A third publisher takes a seat. What eve took back earned nothing in epoch 105, and is free now. */
@@ -332,16 +364,20 @@ int main(void) {
     advance(&book, 107, p, caps, 3);
     payment(&book, a, &own, &own, own_a, &owns);
     payment(&book, a, &own, &eve, eve_a, &eves);
-    payment(&book, b, NULL, &sam, sam_b, &sams);
+    shared_payment(&book, b, NULL, &sam, sam_b, &sams, &clients);
 
     /* Custody is filled again: epoch 107 earns as ever, and what waited is paid. */
     deposit(&book, 50000);
     advance(&book, 108, p, caps, 3);
     payment(&book, a, &own, &own, own_a, &owns);
-    payment(&book, a, &own, &sam, sam_a, &sams);
+    shared_payment(&book, a, &own, &sam, sam_a, &sams, &clients);
     payment(&book, a, &own, &eve, eve_a, &eves);
-    payment(&book, b, NULL, &sam, sam_b, &sams);
+    shared_payment(&book, b, NULL, &sam, sam_b, &sams, &clients);
     seats(&book, p, 3);
+    printf("\nclient  weight    booked\n");
+    for (size_t i = 0; i < clients.len; i++) {
+        printf("%-6s %7" PRIu64 " %9" PRIu64 "\n", clients.names[i], clients.weights[i], clients.booked[i]);
+    }
     printf("\ncustody: deposited " N ", withdrawn " N ", payments " N "\n", book.deposited, book.withdrawn, book.fallen);
     printf("\nledger: %u entries, every check held\n", book.entries);
     return 0;

@@ -1,12 +1,13 @@
-//! Bad input for each of the eleven functions. A case is a good input with one fault and the number that must be returned; it is tried alone, and with
-//! all faults that stand behind it in the order of the refusals. Each time every word of the input, pool and record included, must be as it was (the
-//! answer's are compared in pool_mirror.rs). Then input at the limits, which is accepted. The numbers of the cases are the same in clients/c/bad_input.c.
+//! Bad input for each of the twelve functions. A case is a good input with one fault and the number that must be returned; it is tried alone, and with
+//! all faults that stand behind it in the order of the refusals. Each time every word of the input, pool, record and parts included, must be as it was
+//! (the answer's are compared in pool_mirror.rs). Then input at the limits, which is accepted. The numbers of the cases are the same in clients/c/bad_input.c.
 mod pool_mirror;
 
-use pool_mirror::{image_len, position_state, state_name, Account, Given, Key, Pool, LOCKED, LOCKING, PREUNLOCKING, UNLOCKED, UNLOCKING};
+use pool_mirror::{image_len, position_state, split, state_name, Account, Given, Key, Pool};
+use pool_mirror::{LOCKED, LOCKING, MAX_WEIGHTS, PREUNLOCKING, UNLOCKED, UNLOCKING};
 
-const NAMES: [&str; 11] =
-    ["fresh", "advance", "forecast", "payment", "add", "remove", "position_state", "create_slash_event", "slash", "fee", "stake_account"];
+const NAMES: [&str; 12] =
+    ["fresh", "advance", "forecast", "payment", "add", "remove", "position_state", "create_slash_event", "slash", "fee", "stake_account", "split"];
 const FRESH: usize = 0;
 const ADVANCE: usize = 1;
 const FORECAST: usize = 2;
@@ -18,6 +19,7 @@ const CREATE_SLASH_EVENT: usize = 7;
 const SLASH: usize = 8;
 const FEE: usize = 9;
 const STAKE_ACCOUNT: usize = 10;
+const SPLIT: usize = 11;
 
 const HALF: u64 = 1 << 63;
 const MAX: u64 = u64::MAX;
@@ -88,6 +90,11 @@ struct Input {
     new_account: Key,
     new_positions: Vec<u64>,
     new_len: usize,
+    reward: u64,
+    weights: Vec<u64>,
+    weights_len: usize,
+    parts: Vec<u64>,
+    parts_len: usize,
 }
 
 fn set_position(list: &mut [u64], i: usize, kind: u64, amount: u64, flag: u64, start: u64, publisher: Key) {
@@ -110,6 +117,16 @@ impl Input {
             at[8 * j..8 * j + 8].copy_from_slice(&word.to_le_bytes());
         }
         at[32..].copy_from_slice(&cap.to_be_bytes());
+    }
+
+    fn set_lens(&mut self, weights_len: usize, parts_len: usize) {
+        (self.weights_len, self.parts_len) = (weights_len, parts_len);
+    }
+
+    /// These weights, and room for as many parts.
+    fn set_weights(&mut self, weights: &[u64]) {
+        self.weights[..weights.len()].copy_from_slice(weights);
+        self.set_lens(weights.len(), weights.len());
     }
 }
 
@@ -165,6 +182,11 @@ fn good(f: usize) -> Input {
         new_account: NEW,
         new_positions: vec![0; 2_313],
         new_len: 9,
+        reward: 100,
+        weights: vec![1; 256 + MAX_WEIGHTS],
+        weights_len: 3,
+        parts: vec![7_777; 256 + MAX_WEIGHTS],
+        parts_len: 3,
     };
     i.set_time(21 * 604_800);
     i.set_rows(2);
@@ -175,6 +197,7 @@ fn good(f: usize) -> Input {
     set_position(&mut i.old_positions, 0, 1, 5, 0, 0, A);
     set_position(&mut i.old_positions, 1, 2, 5, 0, 0, B);
     set_position(&mut i.new_positions, 0, 2, 5, 0, 0, C);
+    i.set_weights(&[4, 11, 6]);
     i
 }
 
@@ -209,11 +232,12 @@ fn call(f: usize, i: &mut Input) -> u64 {
             number(pool.slash(i.now, &i.publisher, &i.account, &mut i.record, i.index, i.event_epoch, i.locked, i.preunlocking))
         }
         FEE => number(pool.fee(i.fee)),
-        _ => {
+        STAKE_ACCOUNT => {
             let old = Account { key: i.old_account, owner: i.old_owner, positions: &i.old_positions[..i.old_len] };
             let new = Account { key: i.new_account, owner: i.new_account, positions: &i.new_positions[..i.new_len] };
             number(pool.stake_account(&i.publisher, &i.signer, &i.authority, i.has_old.then_some(old), i.has_new.then_some(new)))
         }
+        _ => number(split(i.reward, &i.weights[..i.weights_len], &mut i.parts[..i.parts_len])),
     }
 }
 
@@ -481,6 +505,37 @@ fn stake_account_fault(i: &mut Input, k: usize) -> u64 {
     }
 }
 
+/// Weights don't add up to more than 64 bits and to 0 at once: 28 is ahead of 29 in the first cases, and of 13 in the others with all behind them.
+fn split_fault(i: &mut Input, k: usize) -> u64 {
+    match k {
+        0 => { i.set_weights(&[0; MAX_WEIGHTS + 1]); 28 }
+        1 => { i.set_weights(&[0; 3]); i.parts_len = 2; 28 }
+        2 => { i.set_weights(&[0; 3]); i.parts_len = 4; 28 }
+        3 => { i.set_lens(0, 1); 28 }
+        4 => { i.set_lens(MAX_WEIGHTS + 1, MAX_WEIGHTS + 1); 28 }
+        5 => { i.set_lens(MAX_WEIGHTS + 1, MAX_WEIGHTS); 28 }
+        6 => { i.set_lens(MAX_WEIGHTS, MAX_WEIGHTS + 1); 28 }
+        7 => { i.set_lens(MAX_WEIGHTS, MAX_WEIGHTS - 1); 28 }
+        // 64 in eight bits.
+        8 => { i.set_lens(256 + MAX_WEIGHTS, 256 + MAX_WEIGHTS); 28 }
+        9 => { i.set_lens(3, 2); 28 }
+        10 => { i.set_lens(3, 4); 28 }
+        11 => { i.set_lens(3, 0); 28 }
+        // In 64 bits these come to 0, and the fourth to 5.
+        12 => { i.set_weights(&[HALF, HALF, 0]); 13 }
+        13 => { i.set_weights(&[0, 1, MAX]); 13 }
+        14 => { i.set_weights(&[MAX, MAX, 2]); 13 }
+        15 => { i.set_weights(&[MAX, 1, 5]); 13 }
+        16 => { i.set_weights(&[1 << 58; MAX_WEIGHTS]); 13 }
+        17 => { i.set_weights(&[0; 3]); 29 }
+        18 => { i.set_weights(&[0; 3]); i.reward = 0; 29 }
+        19 => { i.set_weights(&[0]); 29 }
+        20 => { i.set_weights(&[0; MAX_WEIGHTS]); 29 }
+        21 => { i.set_weights(&[]); 29 }
+        _ => 0,
+    }
+}
+
 fn fault(f: usize, i: &mut Input, k: usize) -> u64 {
     match f {
         FRESH => fresh_fault(i, k),
@@ -492,7 +547,8 @@ fn fault(f: usize, i: &mut Input, k: usize) -> u64 {
         CREATE_SLASH_EVENT => create_slash_event_fault(i, k),
         SLASH => slash_fault(i, k),
         FEE => fee_fault(i, k),
-        _ => stake_account_fault(i, k),
+        STAKE_ACCOUNT => stake_account_fault(i, k),
+        _ => split_fault(i, k),
     }
 }
 
@@ -501,18 +557,21 @@ fn fail(what: String) -> ! {
     std::process::exit(1)
 }
 
-/// The call returns this number. A refused call writes nothing, an accepted one only pool and record besides its answer.
+/// The call returns this number. A refused call writes nothing, an accepted one only pool, record and parts besides its answer.
 fn expect(f: usize, mut i: Input, case: &str, number: u64) {
     let mut before = i.clone();
     let got = call(f, &mut i);
     if got != number {
         fail(format!("{}, {}: {} and not {}", NAMES[f], case, got, number));
     }
-    if number == 0 && f != FORECAST && f != POSITION_STATE {
+    if number == 0 && f != FORECAST && f != POSITION_STATE && f != SPLIT {
         before.pool[..i.pool_len].copy_from_slice(&i.pool[..i.pool_len]);
     }
     if number == 0 && (f == PAYMENT || f == SLASH) {
         before.record = i.record;
+    }
+    if number == 0 && f == SPLIT {
+        before.parts[..i.parts_len].copy_from_slice(&i.parts[..i.parts_len]);
     }
     if before != i {
         fail(format!("{}, {}: another word changed", NAMES[f], case));
@@ -597,6 +656,35 @@ fn drained() -> usize {
     2 * cases.len()
 }
 
+/// Rewards split by weights that add up to 2^64 - 1 and less, by one weight and by 64, and each part: how many.
+fn splits() -> usize {
+    let (mut all, mut units) = ([1 << 58; MAX_WEIGHTS], [1; MAX_WEIGHTS]);
+    (all[MAX_WEIGHTS - 1], units[MAX_WEIGHTS - 1]) = ((1 << 58) - 1, 0);
+    let third = MAX / 3;
+    let cases: [(&str, u64, &[u64], &[u64]); 9] = [
+        ("the sum of the weights", MAX, &[HALF, HALF - 1, 0], &[HALF, HALF - 1, 0]),
+        ("one less than the sum", MAX - 1, &[HALF, HALF - 1, 0], &[HALF - 1, HALF - 1, 0]), // remainders 2^63 - 1 and 2^63
+        ("one unit", 1, &[1, 1, MAX - 2], &[0, 0, 1]),
+        ("two units left, three equal remainders", MAX - 1, &[1, 1, 1], &[third, third, third - 1]),
+        ("weights of 0", MAX, &[0, 1, 0], &[0, MAX, 0]),
+        ("no reward", 0, &[4, 11, 6], &[0, 0, 0]),
+        ("one weight", MAX, &[1], &[MAX]),
+        ("64 weights and the sum of them", MAX, &all, &all),
+        ("64 equal weights and 63 units", 63, &[1; MAX_WEIGHTS], &units),
+    ];
+    for (what, reward, weights, parts) in cases {
+        let mut i = good(SPLIT);
+        i.reward = reward;
+        i.set_weights(weights);
+        let mut got = vec![7_777; parts.len()];
+        if split(reward, weights, &mut got) != Ok(()) || got != parts {
+            fail(format!("split, {what}: {got:?}"));
+        }
+        expect(SPLIT, i, what, 0);
+    }
+    cases.len()
+}
+
 /// Input at the limits: how many were accepted.
 fn limits() -> usize {
     let mut accepted = 0;
@@ -652,6 +740,6 @@ fn limits() -> usize {
 
 fn main() {
     let tried: usize = (0..NAMES.len()).map(refusals).sum();
-    println!("{:<19} {:3} accepted", "at the limits", limits() + drained() + states());
-    println!("bad_input: 11 functions, {tried} refusals, every word as it was");
+    println!("{:<19} {:3} accepted", "at the limits", limits() + drained() + states() + splits());
+    println!("bad_input: 12 functions, {tried} refusals, every word as it was");
 }

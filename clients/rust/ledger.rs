@@ -2,7 +2,7 @@
 //! Ends with status 1 and a message where a call is refused or a check does not hold.
 mod pool_mirror;
 
-use pool_mirror::{image_len, position_state, state_name, Account, Given, Key, Pool};
+use pool_mirror::{image_len, position_state, split, state_name, Account, Given, Key, Pool, MAX_WEIGHTS};
 
 const P: usize = 4;
 const E: usize = 4;
@@ -15,6 +15,13 @@ struct Named {
     name: &'static str,
     bytes: [u8; 32],
     key: Key,
+}
+
+/// One of the clients who share an account: name, weight, and what the book has for it.
+struct Client {
+    name: &'static str,
+    weight: u64,
+    booked: u64,
 }
 
 struct Book {
@@ -149,8 +156,8 @@ impl Book {
     }
 
     /// `own` is the publisher's stake account, if it has one. Pool and record are copied before the call: they stay as they were where the token side
-    /// refuses what is to be moved.
-    fn payment(&mut self, publisher: &Named, own: Option<&Named>, account: &Named, record: &mut [u64; 2], positions: &[[u64; 9]]) {
+    /// refuses what is to be moved. Answers what the account was paid, 0 where the payment is not made.
+    fn payment(&mut self, publisher: &Named, own: Option<&Named>, account: &Named, record: &mut [u64; 2], positions: &[[u64; 9]]) -> u64 {
         let (now, key, flag) = (self.now, own.map(|own| &own.key), own.is_some().into());
         self.call = format!("payment {} {}", publisher.name, account.name);
         let (mut words, mut next) = (self.words.clone(), *record);
@@ -159,7 +166,8 @@ impl Book {
         let paid = self.accepted(paid);
         self.check(next[0] == now, "the record is not in the current epoch");
         // The tokens that leave custody; that the answer says the same is checked in the entry.
-        if self.lowered(paid[0] + if own.is_some() { paid[1] } else { 0 }) {
+        let made = self.lowered(paid[0] + if own.is_some() { paid[1] } else { 0 });
+        if made {
             (self.words, *record) = (words, next);
             self.paid += paid[0] + paid[1];
             self.fallen += paid[2];
@@ -167,6 +175,31 @@ impl Book {
         } else {
             self.entry(&format!("not made: custody -{}", paid[2]));
         }
+        if made { paid[0] } else { 0 }
+    }
+
+    /// What an account was paid is booked to the clients who share it, each one's part by its weight.
+    fn split(&mut self, publisher: &Named, account: &Named, reward: u64, clients: &mut [Client]) {
+        let weights: Vec<u64> = clients.iter().map(|client| client.weight).collect();
+        let (mut parts, mut left, mut told) = ([0; MAX_WEIGHTS], reward, Vec::new());
+        let parts = &mut parts[..clients.len()];
+        self.call = format!("split {} {} {}", publisher.name, account.name, reward);
+        self.accepted(split(reward, &weights, parts));
+        for (client, part) in clients.iter_mut().zip(parts) {
+            self.check(*part <= left, "the parts are more than the reward");
+            left -= *part;
+            client.booked += *part;
+            told.push(format!("{} {}", client.name, part));
+        }
+        self.check(left == 0, "the parts are less than the reward");
+        self.entry(&told.join(", "));
+    }
+
+    fn shared_payment(
+        &mut self, publisher: &Named, own: Option<&Named>, account: &Named, record: &mut [u64; 2], positions: &[[u64; 9]], clients: &mut [Client],
+    ) {
+        let reward = self.payment(publisher, own, account, record, positions);
+        self.split(publisher, account, reward, clients);
     }
 
     fn add(&mut self, publisher: &Named, account: &Named, amount: u64) {
@@ -250,6 +283,7 @@ fn main() {
     let [a, b, _] = &p;
     let caps = [1_000_000, 300_000, 100_000];
     let (mut own_a, mut sam_a, mut sam_b, mut eve_a) = ([0, 0], [0, 0], [0, 0], [0, 0]);
+    let mut clients = [("ann", 4), ("bob", 11), ("cid", 6)].map(|(name, weight)| Client { name, weight, booked: 0 });
     let mut book = Book {
         words: vec![0; image_len(P, E)],
         now: 0,
@@ -281,12 +315,12 @@ fn main() {
     book.advance(101, &p[..2], &caps);
     book.advance(103, &p[..2], &caps);
 
-    // Custody covers less than half of epoch 103's rewards: y is lowered.
+    // Custody covers less than half of epoch 103's rewards: y is lowered. Three clients share sam's account.
     book.deposit(4_999);
     book.advance(104, &p[..2], &caps);
-    book.payment(a, Some(&own), &sam, &mut sam_a, &sams);
+    book.shared_payment(a, Some(&own), &sam, &mut sam_a, &sams, &mut clients);
     book.payment(a, Some(&own), &own, &mut own_a, &owns);
-    book.payment(b, None, &sam, &mut sam_b, &sams);
+    book.shared_payment(b, None, &sam, &mut sam_b, &sams, &mut clients);
     book.payment(a, Some(&own), &eve, &mut eve_a, &eves);
 
     // eve takes a third back; then a tenth of all stake with A is slashed.
@@ -300,7 +334,7 @@ fn main() {
     let eves = [position(a, 180_000, 101, 0), position(a, 90_000, 101, 105)];
     book.deposit(50_000);
     book.advance(105, &p[..2], &caps);
-    book.payment(a, Some(&own), &sam, &mut sam_a, &sams);
+    book.shared_payment(a, Some(&own), &sam, &mut sam_a, &sams, &mut clients);
     book.payment(a, Some(&own), &eve, &mut eve_a, &eves);
 
     // A third publisher takes a seat. What eve took back earned nothing in epoch 105, and is free now.
@@ -317,16 +351,20 @@ fn main() {
     book.advance(107, &p, &caps);
     book.payment(a, Some(&own), &own, &mut own_a, &owns);
     book.payment(a, Some(&own), &eve, &mut eve_a, &eves);
-    book.payment(b, None, &sam, &mut sam_b, &sams);
+    book.shared_payment(b, None, &sam, &mut sam_b, &sams, &mut clients);
 
     // Custody is filled again: epoch 107 earns as ever, and what waited is paid.
     book.deposit(50_000);
     book.advance(108, &p, &caps);
     book.payment(a, Some(&own), &own, &mut own_a, &owns);
-    book.payment(a, Some(&own), &sam, &mut sam_a, &sams);
+    book.shared_payment(a, Some(&own), &sam, &mut sam_a, &sams, &mut clients);
     book.payment(a, Some(&own), &eve, &mut eve_a, &eves);
-    book.payment(b, None, &sam, &mut sam_b, &sams);
+    book.shared_payment(b, None, &sam, &mut sam_b, &sams, &mut clients);
     book.seats(&p);
+    println!("\nclient  weight    booked");
+    for client in &clients {
+        println!("{:<6} {:7} {:9}", client.name, client.weight, client.booked);
+    }
     println!("\ncustody: deposited {}, withdrawn {}, payments {}", book.deposited, book.withdrawn, book.fallen);
     println!("\nledger: {} entries, every check held", book.entries);
 }

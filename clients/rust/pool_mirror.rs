@@ -5,7 +5,7 @@
 /// The words of a key: 32 bytes, little-endian.
 pub type Key = [u64; 4];
 
-/// A call's answer, or the refusal's number, 1 to 27.
+/// A call's answer, or the refusal's number, 1 to 29.
 pub type Answer<const N: usize> = Result<[u64; N], u64>;
 
 /// The states of a position.
@@ -30,6 +30,9 @@ pub fn state_name(state: u64) -> &'static str {
 pub const fn image_len(p: usize, e: usize) -> usize {
     3 + 14 * p + e * (9 + 3 * p)
 }
+
+/// A split has at most so many weights.
+pub const MAX_WEIGHTS: usize = 64;
 
 /// A pool's words with its numbers of seats and events.
 pub struct Pool<'a> {
@@ -96,6 +99,7 @@ mod raw {
             has_old: u64, old_account: *const [u64; 4], old_owner: *const [u64; 4], old_positions: *const u64, old_positions_len: usize, has_new: u64,
             new_account: *const [u64; 4], new_positions: *const u64, new_positions_len: usize,
         ) -> u64;
+        pub fn pool_mirror_split(reward: u64, weights: *const u64, weights_len: usize, parts: *mut u64, parts_len: usize) -> u64;
     }
 }
 
@@ -123,6 +127,12 @@ pub fn position_state(epoch: u64, position: &[u64], unlocking_duration: u64) -> 
     let mut answer = [BEFORE; 1];
     let number = unsafe { raw::pool_mirror_position_state(epoch, position.as_ptr(), position.len(), unlocking_duration, &mut answer) };
     answered(number, answer)
+}
+
+/// Each client's part of a reward by its weight, to the smallest unit: as many parts as weights, in their order. Of no pool. Refused with 28 for more than
+/// MAX_WEIGHTS weights or another number of parts, 13 for a sum of the weights past 64 bits, 29 for a sum of 0; the parts are then as they were.
+pub fn split(reward: u64, weights: &[u64], parts: &mut [u64]) -> Result<(), u64> {
+    done(unsafe { raw::pool_mirror_split(reward, weights.as_ptr(), weights.len(), parts.as_mut_ptr(), parts.len()) })
 }
 
 impl Pool<'_> {

@@ -1,13 +1,13 @@
-//! The calls of document 01, asked of the Rust's own handlers (lib.rs). Each answers its values,
-//! every one after a space.
+//! The calls of document 01, asked of the Rust's own handlers (lib.rs), and document 02's split, of
+//! which the Rust has none. Each answers its values, every one after a space.
 use {
     crate::{
         accounts::{caps, context, position, positions, set_now, Held},
         derived,
         handed::{self, Pool},
         journal::{Advance, Call, Change, Payment, SetStakeAccount, Slash},
-        refusal::{guard, Asked},
-        site,
+        refusal::{guard, Asked, Stop},
+        site, split,
     },
     anchor_lang::{given, prelude::Pubkey},
     integrity_pool::{integrity_pool as handlers, state::delegation_record::DelegationRecord},
@@ -133,6 +133,13 @@ fn state(epoch: u64, words: &[u64]) -> Asked<String> {
     guard(|| p.get_current_position(epoch).map(|s| format!(" {s}")))
 }
 
+/// The plain function that stands for what the Rust doesn't have.
+fn split(reward: u64, weights: &[u64]) -> Asked<String> {
+    let mut parts = vec![0; weights.len()];
+    guard(|| Ok(split::parts(reward, weights, &mut parts)))?.map_err(Stop::Number)?;
+    Ok(parts.iter().map(|part| format!(" {part}")).collect())
+}
+
 /// Asks the Rust; what is left of the pool after a refusal or a forecast is the caller's to undo.
 pub fn ask(pool: &Pool, call: &Call) -> Asked<String> {
     match call {
@@ -149,5 +156,6 @@ pub fn ask(pool: &Pool, call: &Call) -> Asked<String> {
         Call::Fee(f) => fee(pool, *f),
         Call::StakeAccount(s) => stake_account(pool, s),
         Call::State { epoch, position } => state(*epoch, position),
+        Call::Split { reward, weights } => split(*reward, weights),
     }
 }

@@ -71,8 +71,10 @@ fn stake_accounts(s: &SetStakeAccount) -> bool {
 /// Whether the call passes those of checks 1 to 5 that it makes.
 pub fn pass(site: &Site, call: &Call) -> bool {
     // asked of no pool
-    if let Call::State { position, .. } = call {
-        return one_position(position);
+    match call {
+        Call::State { position, .. } => return one_position(position),
+        Call::Split { .. } => return true,
+        _ => {}
     }
     let Some(held) = site.pool() else {
         return false;

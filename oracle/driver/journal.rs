@@ -12,13 +12,14 @@ pub type Read<T> = std::result::Result<T, &'static str>;
 /// not looked at.
 const MESSAGE_ROOM: usize = 40_972;
 const POSITIONS_ROOM: usize = 257 * 9;
+const WEIGHTS_ROOM: usize = 65;
 pub const IMAGE_ROOM: usize = 174_552;
 
 /// The calls that `help` can be asked about.
-const CALLS: [&str; 20] = [
+const CALLS: [&str; 21] = [
     "new", "settings", "image", "nonzero", "load", "save", "fresh", "advance", "forecast", "payment",
-    "add", "remove", "create-slash-event", "slash", "fee", "stake-account", "show", "state", "help",
-    "quit",
+    "add", "remove", "create-slash-event", "slash", "fee", "stake-account", "show", "state", "split",
+    "help", "quit",
 ];
 
 pub struct Advance {
@@ -86,6 +87,8 @@ pub enum Call {
     StakeAccount(SetStakeAccount),
     /// A position's state, of no pool.
     State { epoch: u64, position: Vec<u64> },
+    /// A reward among clients, of no pool either.
+    Split { reward: u64, weights: Vec<u64> },
 }
 
 fn hex(digits: &[u8]) -> Option<Vec<u8>> {
@@ -301,7 +304,14 @@ impl<'a> Fields<'a> {
         })
     }
 
-    /// A call of document 01, its name read before.
+    fn split(&mut self) -> Read<Call> {
+        Ok(Call::Split {
+            reward:  self.number()?,
+            weights: self.words(WEIGHTS_ROOM)?,
+        })
+    }
+
+    /// A call of document 01 or 02, its name read before.
     pub fn call(&mut self, name: &[u8]) -> Read<Call> {
         let call = match name {
             b"fresh" => Call::Fresh(self.number()?),
@@ -315,6 +325,7 @@ impl<'a> Fields<'a> {
             b"fee" => Call::Fee(self.number()?),
             b"stake-account" => Call::StakeAccount(self.set_stake_account()?),
             b"state" => self.state_of()?,
+            b"split" => self.split()?,
             _ => return Err("an unknown call"),
         };
         self.end()?;

@@ -11,6 +11,7 @@ mod journal;
 mod leaf;
 mod refusal;
 mod site;
+mod split;
 
 use {
     journal::Fields,
@@ -74,7 +75,7 @@ fn save(site: &Site, f: &mut Fields) -> Result<Answer, End> {
     Ok(site.save(path)?)
 }
 
-/// The lines that the Rust answers.
+/// The lines that the Rust answers, and `split`.
 fn question(site: &mut Site, name: &[u8], f: &mut Fields) -> Result<Answer, End> {
     match name {
         b"leaf" => {

@@ -64,7 +64,7 @@ impl From<Asked<String>> for Answer {
 fn may_write(call: &Call) -> [Range<usize>; 2] {
     match call {
         Call::Fresh(_) | Call::Advance(_) | Call::Forecast(_) => [0..WORDS, WORDS..WORDS],
-        Call::State { .. } => [0..0, 0..0],
+        Call::State { .. } | Call::Split { .. } => [0..0, 0..0],
         _ => [0..EVENTS.start, EVENTS.end..WORDS],
     }
 }

@@ -9,7 +9,7 @@ use Rattle.types.proofs.Below.{and_right}
 use Rattle.image.specs.Layout.{Head, last_updated_epoch, num_events, Seat, event_epoch, event_y}
 use Rattle.image.specs.Layout.{extra_space, Share, Field, head, seat, slot, share, Words, InRange}
 use Rattle.image.specs.Seats.{fresh_words, seats_of}
-use Rattle.image.proofs.ListLaws.{lt_or_le}
+use Rattle.types.proofs.Below.{lt_or_le}
 use Rattle.image.proofs.AgeLaws.{age, age_zero, age_suc}
 use Rattle.advance_plan.specs.Advance.{slot_word, share_word, seat_cap, event_written, events_after, advanced_words}
 

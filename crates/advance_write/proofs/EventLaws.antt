@@ -8,7 +8,8 @@ use borrow.Rule.Slice.PartMut.{put_mid}
 use Rattle.image.specs.Layout.{self, other, Slot, event_epoch, event_y, extra_space, Share, reward_ratio, event_fee}
 use Rattle.image.specs.Layout.{Field, head, seat, slot, share, event_size, event_at, size, InSlot, InRange, read, image}
 use Rattle.image.specs.Seats.{Sized}
-use Rattle.image.proofs.ListLaws.{lt_or_le, put_before, put_in, put_after}
+use Rattle.types.proofs.Below.{lt_or_le}
+use Rattle.image.proofs.ListLaws.{put_before, put_in, put_after}
 use Rattle.image.proofs.PlaceLaws.{slot_fits_law}
 use Rattle.image.proofs.PartLaws.{slot_at, share_at, part_slot, part_share, part_else, lent_slot, lent_share}
 use Rattle.image.proofs.HoldsLaws.{holds_is}

@@ -9,7 +9,7 @@ use Rattle.std.specs.Prelude.{if◌then◌else◌}
 use Rattle.types.specs.declared.Ratio.{Ratio}
 use Rattle.image.specs.Layout.{self, other, Head, Seat, Slot, event_epoch, event_y, extra_space, Share}
 use Rattle.image.specs.Layout.{delegation_fees, reward_ratio, event_fee, Field, head, seat, slot, share, Words, InRange}
-use Rattle.image.proofs.ListLaws.{lt_or_le}
+use Rattle.types.proofs.Below.{lt_or_le}
 use Rattle.image.proofs.AgeLaws.{age, age_lt, slot_of}
 use Rattle.image.specs.declared.pool_data.PoolDataMut.{PoolDataMut}
 use Rattle.image.specs.Pool.{words_in, Becomes}

@@ -17,7 +17,7 @@ use Rattle.positions.specs.declared.Key.{Key}
 use Rattle.positions.specs.declared.position.Position.{Position}
 use Rattle.positions.specs.Positions.{position_from, in_publisher}
 use Rattle.image.specs.Layout.{Words}
-use Rattle.image.proofs.ListLaws.{lt_or_le}
+use Rattle.types.proofs.Below.{lt_or_le}
 use Rattle.event_walk.specs.declared.EventAmounts.{EventAmounts}
 use Rattle.event_walk.specs.declared.newest.Newest.{Newest}
 use Rattle.event_walk.specs.declared.span.Span.{Span}

@@ -10,7 +10,7 @@ use lib.Dec.{ltb}
 use borrow.Author.Tests.{eq-eqb, ne_eqb, lt-ltb}
 use Rattle.types.specs.Base.{count_below}
 use Rattle.types.proofs.Below.{all_each, all_not, count_le, count_each, count_skips, NoneBelow, first_at, first_none, first_le, first_before_law, first_found}
-use Rattle.image.proofs.ListLaws.{lt_or_le}
+use Rattle.types.proofs.Below.{lt_or_le}
 use Rattle.image.specs.Layout.{num_events, event_epoch, head, slot, Words}
 use Rattle.event_walk.specs.Walk.{walk_length, walk_slot, walk_epoch, walk_meets, is_read, walk_reads}
 use Rattle.event_walk.specs.Walked.{slot_before}

@@ -19,7 +19,7 @@ use Rattle.event.proofs.AdjustLaws.{adjust_keeps}
 use Rattle.event.proofs.EventLaws.{total_no_rate, rate_no_ratio}
 use Rattle.image.specs.Layout.{Whose, self, other, last_updated_epoch, num_events, publishers, event_y, reward_ratio, Field, head, seat, slot, share, Words, read}
 use Rattle.image.specs.Seats.{empty_seat, seats_of}
-use Rattle.image.proofs.ListLaws.{lt_or_le}
+use Rattle.types.proofs.Below.{lt_or_le}
 use Rattle.image.proofs.SeatLaws.{seats_le}
 use Rattle.image.proofs.AgeLaws.{age, age_of}
 use Rattle.advance_plan.specs.declared.Given.{Given}

@@ -14,7 +14,7 @@ use Rattle.image.specs.Layout.{self, publishers, total_delegation, delta_delegat
 use Rattle.image.specs.Layout.{delegation_fees, Field, head, seat, slot, share, Words, size, num_events_at, addr, InRange, read, image}
 use Rattle.image.specs.Seats.{word_of, keyed, FilledFrom, side_at}
 use Rattle.image.specs.Changes.{whose, with_slash_events, with_stake_account, with_fees, changed_image}
-use Rattle.image.proofs.ListLaws.{lt_or_le}
+use Rattle.types.proofs.Below.{lt_or_le}
 use Rattle.image.proofs.LayoutLaws.{addr_lt, addr_apart}
 use Rattle.image.proofs.HoldsLaws.{stays}
 use Rattle.image.proofs.WriteLaws.{place, stored, stored_is}

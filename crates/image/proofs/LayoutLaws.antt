@@ -1,27 +1,17 @@
 -- Each field in range has a place of its own.
 -- Assumes nothing.
-use Prim.Native.Nat.{ℕ, zero, suc, ◌+◌, ◌*◌, ◌-◌, ◌/◌, ◌%◌, ◌≤◌, ◌<◌}
+use Prim.Native.Nat.{ℕ, ◌+◌, ◌*◌, ◌-◌, ◌/◌, ◌%◌, ◌≤◌, ◌<◌}
 use mathlib.Core.Path.{◌≡◌, refl, sym, ap, ap₂, ◌∙◌}
 use native.Mathlib.Omega.{arith}
 use native.Mathlib.Nat.{mul-le-mul_right}
-use lib.ListN.{get_or, length}
+use lib.ListN.{length}
 use lib.Arith.{digits_div, digits_mod}
 use borrow.Author.Tests.{lt-ltb, le-ltb, eq-eqb, ne_eqb}
 use Rattle.image.specs.Layout.{Whose, self, other, last_updated_epoch, claimable_rewards, num_events, publishers, total_delegation}
 use Rattle.image.specs.Layout.{delta_delegation, publisher_stake_accounts, num_slash_events, delegation_fees, event_epoch, event_y}
 use Rattle.image.specs.Layout.{extra_space, reward_ratio, event_fee, Field, head, seat, slot, share, Words, event_size, events_at}
-use Rattle.image.specs.Layout.{size, addr, InRange, if_below, if_equal, side_field, event_field, field_of, read, tabulate, image}
-
-pub get_d_tabulate : (n : ℕ) (f : ℕ → ℕ) (i : ℕ) → i < n → get_or (tabulate n f) i 0 ≡ f i
-unfolding tabulate
-get_d_tabulate zero f i h = absurd (omega arith)
-get_d_tabulate (suc n) f zero h = refl
-get_d_tabulate (suc n) f (suc i) h = get_d_tabulate n (λ j. f (suc j)) i (omega arith)
-
-pub length_tabulate : (n : ℕ) (f : ℕ → ℕ) → length (tabulate n f) ≡ n
-unfolding tabulate
-length_tabulate zero f = refl
-length_tabulate (suc n) f = ap suc (length_tabulate n (λ j. f (suc j)))
+use Rattle.image.specs.Layout.{size, addr, InRange, if_below, if_equal, side_field, event_field, field_of, read, image}
+use Rattle.types.proofs.ListLaws.{get_or_tabulate, length_tabulate}
 
 -- a test that is known to fail, or to pass, in a chain of tests
 past : (i b : ℕ) (x y z : Field) → b ≤ i → y ≡ z → if_below i b x y ≡ z
@@ -158,7 +148,7 @@ module _ (P E : ℕ) where
   -- the words of an image are read back
   pub read_image : (w : Words) (f : Field) → InRange P E f → read P E (image P E w) f ≡ w f
   unfolding image read
-  read_image w f r = get_d_tabulate (size P E) (λ i. w (field_of P E i)) (addr P E f) (addr_lt f r) ∙ ap w (field_of_addr f r)
+  read_image w f r = get_or_tabulate (size P E) (λ i. w (field_of P E i)) (addr P E f) (addr_lt f r) ∙ ap w (field_of_addr f r)
 
   pub length_image : (w : Words) → length (image P E w) ≡ size P E
   unfolding image

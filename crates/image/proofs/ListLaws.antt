@@ -1,18 +1,11 @@
 -- A part of a list of words, lent and given back. Assumes nothing.
 use mathlib.Core.Path.{◌≡◌, ◌∙◌, ap, subst}
-use mathlib.Core.Logic.{◌⊎◌, inl, inr, ⊎_elim}
 use mathlib.Core.List.{List, ◌++◌}
-use Prim.Native.Nat.{ℕ, zero, suc, ◌+◌, ◌-◌, ◌≤◌, ◌<◌, zero-le, suc-le-suc}
+use Prim.Native.Nat.{ℕ, ◌+◌, ◌-◌, ◌≤◌, ◌<◌}
 use native.Mathlib.Nat.{add-sub_of_le}
 use native.Mathlib.Omega.{arith}
 use lib.ListN.{length, get_or, take, drop, get_or-append}
 use lib.Seq.{length-take-le, get_or-take, get_or-drop, get_or-append-add, drop-drop}
-
-pub lt_or_le : (a b : ℕ) → (a < b) ⊎ (b ≤ a)
-lt_or_le zero zero = inr zero-le
-lt_or_le zero (suc b) = inl (suc-le-suc zero-le)
-lt_or_le (suc a) zero = inr zero-le
-lt_or_le (suc a) (suc b) = ⊎_elim (λ p. inl (suc-le-suc p)) (λ q. inr (suc-le-suc q)) (lt_or_le a b)
 
 -- a part of w words from a on, put back as ys: what the borrow checker says of a slice whose part was lent
 module _ (l ys : List ℕ) (a w : ℕ) (fits : a + w ≤ length l) (many : length ys ≡ w) where

@@ -11,7 +11,8 @@ use lib.Seq.{get_or-take, get_or-drop}
 use Rattle.image.specs.Layout.{self, other, last_updated_epoch, claimable_rewards, num_events, publishers, total_delegation, delta_delegation}
 use Rattle.image.specs.Layout.{publisher_stake_accounts, num_slash_events, delegation_fees, Slot, event_epoch, event_y, extra_space, Share}
 use Rattle.image.specs.Layout.{reward_ratio, event_fee, Field, head, seat, slot, share, event_size, event_at, size, addr, InSlot, InRange, read}
-use Rattle.image.proofs.ListLaws.{lt_or_le, put_before, put_in, put_after}
+use Rattle.types.proofs.Below.{lt_or_le}
+use Rattle.image.proofs.ListLaws.{put_before, put_in, put_after}
 use Rattle.image.proofs.PlaceLaws.{slot_fits_law}
 
 -- the place of a word within its event

@@ -1,6 +1,6 @@
 -- Item 9's changes of a pool's words, in one shape. Assumes nothing.
 use Rattle.std.specs.Prelude.{Bool, true, false, List, ℕ, eqb, if◌then◌else◌}
-use Rattle.types.specs.Base.{Outcome, map_outcome, after}
+use Rattle.types.specs.Base.{Outcome, after}
 use Rattle.positions.specs.declared.Key.{Key}
 use Rattle.positions.specs.Key.{same_key}
 use Rattle.delegation.specs.declared.DelegationState.{DelegationState}
@@ -89,7 +89,3 @@ changed w (fees fee) = with_fees w fee
 -- the image after a call that comes to this: a refused one leaves the image it found
 unfoldable pub changed_image : (P E : ℕ) → List ℕ → Outcome Change → List ℕ
 changed_image P E img o = after o (λ c. image P E (changed (read P E img) c)) img
-
--- the answer of a call that has no values
-unfoldable pub acceptance : Outcome Change → Outcome (Unit {0})
-acceptance o = map_outcome (λ c. tt) o

@@ -1,6 +1,7 @@
 -- The words of a pool image by name: where each word stands, and which word stands at a place.
 -- Document 01, 'The image'; the names are those of the Rust's PoolData. Only this file gives the names their places. Assumes nothing.
-use Rattle.std.specs.Prelude.{ℕ, zero, suc, ◌+◌, ◌*◌, ◌-◌, ◌/◌, ◌%◌, ◌<◌, cond, List, [], ◌∷◌, eqb, ltb, get_or}
+use Rattle.std.specs.Prelude.{ℕ, ◌+◌, ◌*◌, ◌-◌, ◌/◌, ◌%◌, ◌<◌, cond, List, eqb, ltb, get_or}
+use Rattle.types.specs.Base.{tabulate}
 
 -- whose stake it is: the two sides of a seat are the publisher's own stake account and everybody else (document 01's self side and other side,
 -- the Rust's self_del_state and del_state)
@@ -129,11 +130,6 @@ field_of P E i =
 -- the word with this name
 unfoldable pub read : ℕ → ℕ → List ℕ → Words
 read P E img f = get_or img (addr P E f) 0
-
--- the list of f 0, f 1, .. of length n
-unfoldable pub tabulate : ℕ → (ℕ → ℕ) → List ℕ
-tabulate zero f = []
-tabulate (suc n) f = f 0 ∷ tabulate n (λ i. f (suc i))
 
 -- the image that holds these words
 unfoldable pub image : ℕ → ℕ → Words → List ℕ

@@ -5,7 +5,8 @@ use Prim.Native.Nat.{ℕ}
 use Rattle.std.proofs.Common.{arith}
 use Rattle.std.proofs.lemmas.Grind.{common_steps}
 use Rattle.types.specs.Base.{refused, accepted}
-use Rattle.image.specs.Changes.{changed_image, acceptance}
+use Rattle.types.specs.Base.{acceptance}
+use Rattle.image.specs.Changes.{changed_image}
 use Rattle.advance_plan.specs.declared.Given.{Given}
 use Rattle.integrity_pool.specs.Calls.{checked_then, advance_call, advance_image}
 use Rattle.integrity_pool.specs.Changes.{checked_image_then}

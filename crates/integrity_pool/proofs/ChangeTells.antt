@@ -5,7 +5,8 @@ use Prim.Native.Nat.{ℕ, ◌+◌, ◌≤◌}
 use native.Mathlib.Omega.{arith}
 use Rattle.std.proofs.lemmas.Grind.{common_steps}
 use Rattle.types.specs.Base.{Outcome, refused, accepted}
-use Rattle.image.specs.Changes.{Change, changed_image, acceptance}
+use Rattle.types.specs.Base.{acceptance}
+use Rattle.image.specs.Changes.{Change, changed_image}
 use Rattle.integrity_pool.specs.declared.slash.Slashing.{Slashing}
 use Rattle.integrity_pool.specs.Changes.{created_in, wrong_order, slash_order, slashed_record, slashed_with}
 

@@ -2,7 +2,7 @@
 use Prim.Native.Nat.{ℕ}
 use mathlib.Core.Bool.{cond}
 use lib.Dec.{eqb}
-use Rattle.types.specs.Base.{sum_below, all_below, any_below, count_below, first_below}
+use Rattle.types.specs.Base.{sum_below, all_below, any_below, count_below, first_below, tabulate}
 use Rattle.positions.specs.Key.{same_key}
 use Rattle.positions.specs.State.{state_by}
 use Rattle.positions.specs.Positions.{position_holds, positions_hold, in_publisher, has_publisher}
@@ -13,7 +13,7 @@ use Rattle.event.specs.Eligible.{self_eligible, other_eligible, ratio_of}
 use Rattle.event.specs.Adjust.{rewards_of, lowered_by, adjust_of}
 use Rattle.event.specs.Event.{rate_of, total_of, shared, reward_of, event_reward}
 use Rattle.delegation.specs.Side.{rolled, roll_fits, raised_of, lowered_of, add_of, remove_of, slash_of}
-use Rattle.image.specs.Layout.{Field, Words, addr, if_below, if_equal, side_field, event_field, field_of, read, tabulate, image}
+use Rattle.image.specs.Layout.{Field, Words, addr, if_below, if_equal, side_field, event_field, field_of, read, image}
 use Rattle.image.specs.Seats.{sized_image, checked_image, empty_seat, seats_of, first_seat, publisher_index_of, with_side}
 use Rattle.image.specs.Changes.{self_side, with_slash_events, with_stake_account, with_fees, changed_image}
 use Rattle.advance_plan.specs.Advance.{key_number, seat_cap, seat_rolls, eligible_at, ratio_at, eligible_in, ratio_in, eligible_sum, forecast_sum, matched_row, key_after, event_written, events_after, adjustment_of, matched_rows, answer_with, advance_of, forecast_of}

@@ -1,7 +1,8 @@
 // Item 9: add and remove stake, and every seat's fee.
 ghost use Rattle.std.specs.Prelude.{◌≡◌};
 ghost use Rattle.types.specs.Base.{outcome_of};
-ghost use Rattle.image.specs.Changes.{changed_image, acceptance};
+ghost use Rattle.image.specs.Changes.{changed_image};
+ghost use Rattle.types.specs.Base.{acceptance};
 ghost use Rattle.integrity_pool.specs.Changes.{add_call, remove_call, fee_call};
 
 use image::pool_data::{PoolData, PoolDataMut};

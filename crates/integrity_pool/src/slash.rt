@@ -79,7 +79,7 @@ fn slash_order(slashing: &Slashing) -> Result<u64, Refusal>
 }
 
 // A slash in its turn changes the pool where it is of the current epoch: one older changes the record alone.
-#[tactic(auto, using(image::proofs::HoldsLaws::holds_is), unfolding(crate::specs::Changes::slash_change, image::specs::Changes::acceptance, image::specs::Changes::changed_image))]
+#[tactic(auto, using(image::proofs::HoldsLaws::holds_is), unfolding(crate::specs::Changes::slash_change, types::specs::Base::acceptance, image::specs::Changes::changed_image))]
 fn slash_in_turn(pool: &mut PoolDataMut<'_>, slashing: &Slashing) -> Result<(), Refusal>
     ensures { ChangesAs pool.old pool.new (slash_change pool.old.p (words_in pool.old) slashing.now) result }
 {

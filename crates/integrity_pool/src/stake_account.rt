@@ -1,7 +1,8 @@
 // Item 9: a publisher's stake account, the Rust's set_publisher_stake_account.
 ghost use Rattle.std.specs.Prelude.{◌≡◌};
 ghost use Rattle.types.specs.Base.{outcome_of};
-ghost use Rattle.image.specs.Changes.{changed_image, acceptance};
+ghost use Rattle.image.specs.Changes.{changed_image};
+ghost use Rattle.types.specs.Base.{acceptance};
 ghost use Rattle.integrity_pool.specs.Changes.{account_holds, first_account, later_account, may_change, new_account, stake_account_call};
 
 use image::pool_data::{PoolData, PoolDataMut};

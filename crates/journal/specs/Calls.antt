@@ -6,7 +6,8 @@ use Rattle.std.specs.Str.{bytes_eq}
 use Rattle.journal.specs.declared.calls.Kind.{Kind}
 use Rattle.journal.specs.declared.calls.Kind.TheVariants as kind
 use Rattle.journal.specs.declared.calls.Call.{Call}
-use Rattle.journal.specs.declared.calls.Call.TheVariants.{New, Settings, Image, Nonzero, Load, Save, Fresh, Advance, Forecast, Payment, Add, Remove, CreateSlashEvent, Slash, Fee, StakeAccount, Show, State, Help, Quit}
+use Rattle.journal.specs.declared.calls.Call.TheVariants.{New, Settings, Image, Nonzero, Load, Save, Fresh, Advance, Forecast, Payment, Add, Remove}
+use Rattle.journal.specs.declared.calls.Call.TheVariants.{CreateSlashEvent, Slash, Fee, StakeAccount, Show, State, Split, Help, Quit}
 
 abbrev pub calls : List Call
 calls =
@@ -28,6 +29,7 @@ calls =
     ∷ StakeAccount
     ∷ Show
     ∷ State
+    ∷ Split
     ∷ Help
     ∷ Quit
     ∷ []
@@ -51,6 +53,7 @@ call_name Fee = codes "fee"
 call_name StakeAccount = codes "stake-account"
 call_name Show = codes "show"
 call_name State = codes "state"
+call_name Split = codes "split"
 call_name Help = codes "help"
 call_name Quit = codes "quit"
 
@@ -129,6 +132,7 @@ fields_of StakeAccount =
     ∷ []
 fields_of Show = []
 fields_of State = number (codes "EPOCH") ∷ positions (codes "POSITION") ∷ []
+fields_of Split = number (codes "REWARD") ∷ (codes "WEIGHTS", kind.Weights) ∷ []
 fields_of Help = (codes "CALL", kind.Call) ∷ []
 fields_of Quit = []
 
@@ -150,6 +154,7 @@ may_miss (Some kind.State) = false
 may_miss (Some kind.Message) = false
 may_miss (Some kind.Path) = false
 may_miss (Some kind.Positions) = false
+may_miss (Some kind.Weights) = false
 may_miss (Some kind.Words) = true
 may_miss (Some kind.Call) = true
 

@@ -43,9 +43,10 @@ pub record ListRead (whole : Bool) (s old new : List ℕ) (result : Result ℕ W
   pub told : result ≡ part_of whole s (length old)
   pub kept : new ≡ parted whole s old
 
--- the room for a list: 257 positions of nine words for positions, what is left for an image
+-- the room for a list: 257 positions of nine words for positions, 65 weights, what is left for an image
 abbrev pub room_of : Kind → (left : ℕ) → ℕ
 room_of kind.Positions left = min left 2313
+room_of kind.Weights left = min left 65
 room_of _ left = left
 
 -- an item that the buffer can't hold: a message may go beyond

@@ -43,6 +43,7 @@ value_of kind.Key s = key_value (key_of s)
 value_of kind.Message s = key_value (key_of s)
 value_of kind.Path s = key_value (key_of s)
 value_of kind.Positions s = key_value (key_of s)
+value_of kind.Weights s = key_value (key_of s)
 value_of kind.Words s = key_value (key_of s)
 
 -- a number, 0 where there is none

@@ -65,6 +65,7 @@ fn answer_of(call: Call) -> &'static str {
         Call::Slash => "record's epoch, next index",
         Call::Show => "the number of lines that follow: the pool as a table",
         Call::State => "the position's state",
+        Call::Split => "each client's part",
         Call::Help => "the number of lines that follow: every call, or CALL and its answer",
         Call::Quit => "no value; the run ends",
     }

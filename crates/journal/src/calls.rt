@@ -14,6 +14,7 @@ pub enum Kind {
     Message,
     Path,
     Positions,
+    Weights,
     Words,
     Call,
 }
@@ -38,12 +39,13 @@ pub enum Call {
     StakeAccount,
     Show,
     State,
+    Split,
     Help,
     Quit,
 }
 
 // The calls in the order of `help`.
-pub const CALLS: [Call; 20] = [
+pub const CALLS: [Call; 21] = [
     Call::New,
     Call::Settings,
     Call::Image,
@@ -62,6 +64,7 @@ pub const CALLS: [Call; 20] = [
     Call::StakeAccount,
     Call::Show,
     Call::State,
+    Call::Split,
     Call::Help,
     Call::Quit,
 ];
@@ -92,6 +95,7 @@ impl Named for Call {
             Call::StakeAccount => "stake-account",
             Call::Show => "show",
             Call::State => "state",
+            Call::Split => "split",
             Call::Help => "help",
             Call::Quit => "quit",
         }
@@ -193,6 +197,7 @@ impl Call {
             Call::StakeAccount => &STAKE_ACCOUNT_FIELDS,
             Call::Show => &[],
             Call::State => &[("EPOCH", Kind::Number), ("POSITION", Kind::Positions)],
+            Call::Split => &[("REWARD", Kind::Number), ("WEIGHTS", Kind::Weights)],
             Call::Help => &[("CALL", Kind::Call)],
             Call::Quit => &[],
         }

@@ -23,6 +23,9 @@ pub const WORDS_ROOM: usize = 174552;
 // The words of a position list: 257 positions, one more than the library accepts.
 const POSITIONS_ROOM: usize = 2313;
 
+// 65 weights, one more than the library accepts.
+const WEIGHTS_ROOM: usize = 65;
+
 // A message in hexadecimal digits; `-` is the empty one. How many bytes it has.
 pub fn message(s: &[u8], bytes: &mut [u8]) -> Result<usize, Fault>
     ensures { MessageRead s.now bytes.old bytes.new result }
@@ -109,15 +112,16 @@ pub fn words(input: &mut Input, out: &mut [u64]) -> Result<usize, Fault>
     Ok(count)
 }
 
-// The room for a list, of what is left: a position list has its own.
+// The room for a list, of what is left: positions and weights have their own.
 pub fn room(kind: Kind, left: usize) -> usize
     ensures room { result ≡ room_of kind left }
     ensures within { result ≤ left }
 {
-    if kind == Kind::Positions {
-        return left.min(POSITIONS_ROOM);
+    match kind {
+        Kind::Positions => left.min(POSITIONS_ROOM),
+        Kind::Weights => left.min(WEIGHTS_ROOM),
+        _ => left,
     }
-    left
 }
 
 // What a line's fields came to: their values in order, the bytes of a message or a path, and the words of the lists, the last of which begins at `list`.
@@ -297,7 +301,7 @@ impl Fields {
         ensures { OnOk result (OneMore self.old.values.items self.new.values.items) }
     {
         match kind {
-            Kind::Positions | Kind::Words => self.read_list(input, kind),
+            Kind::Positions | Kind::Weights | Kind::Words => self.read_list(input, kind),
             _ => self.read_item(input, kind),
         }
     }

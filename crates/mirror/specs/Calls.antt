@@ -1,8 +1,9 @@
 -- What each line's call is: the library's own, on the site's image, of the line's fields. Assumes nothing.
-use Rattle.std.specs.Prelude.{List, [], ◌∷◌, ℕ}
+use Rattle.std.specs.Prelude.{List, [], ◌∷◌, length, ℕ}
 use Rattle.types.specs.Base.{Outcome}
 use Rattle.positions.specs.declared.position.PositionState.{PositionState}
 use Rattle.positions.specs.State.{state_call}
+use Rattle.split.specs.Split.{split_call}
 use Rattle.image.specs.Changes.{Change}
 use Rattle.advance_plan.specs.Advance.{Advanced}
 use Rattle.integrity_pool.specs.declared.payment.Payment as paid
@@ -66,6 +67,10 @@ module _ (site : Site) (fields : Fields) where
   -- state EPOCH POSITION, of which the pool is no part
   abbrev pub state_of : Outcome PositionState
   state_of = state_call (list_of fields) (number_at fields.values.items 0) site.unlocking_duration
+
+-- split REWARD WEIGHTS; the list of parts is as long as that of the weights
+abbrev pub split_of : Fields → Outcome (List ℕ)
+split_of fields = split_call (number_at fields.values.items 0) (list_of fields) (length (list_of fields))
 
 -- the delegator's part, the publisher's part, the record's two, the read count, custody's fall
 abbrev pub payment_told : paid.Payment → List ℕ

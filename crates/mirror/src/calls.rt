@@ -2,10 +2,12 @@
 ghost use Rattle.std.specs.Prelude.{◌≡◌};
 ghost use Rattle.integrity_pool.specs.Payment.{record_words};
 ghost use Rattle.pool.specs.Answers.{advanced_list};
-ghost use Rattle.mirror.specs.Calls.{payment_told};
+ghost use Rattle.types.specs.Base.{outcome_of, acceptance};
+ghost use Rattle.mirror.specs.Calls.{payment_told, split_of};
 
 use crate::failure::{Failure, check_accounts};
 use crate::site::{Site, next_nonzero};
+use crate::split_call::split;
 use integrity_pool::payment::{DelegationRecord, Payment};
 use journal::answer::{self, ok};
 use journal::calls::Call;
@@ -70,6 +72,16 @@ fn image(site: &mut Site, fields: &Fields, pen: &mut Pen) {
     }
 }
 
+// split REWARD WEIGHTS. Apart from the match, since every line's call would clear the room for the parts.
+#[inline(never)]
+#[tactic(auto, unfolding(types::specs::Base::acceptance))]
+fn parts(fields: &Fields, pen: &mut Pen) -> Result<(), Refusal>
+    ensures { outcome_of result ≡ acceptance (split_of fields.now) }
+{
+    ok(pen, split(fields)?.as_slice());
+    Ok(())
+}
+
 // The answer of a call without values.
 fn done(made: Result<(), Refusal>, pen: &mut Pen) -> Result<(), Refusal>
     ensures { result ≡ made }
@@ -114,6 +126,7 @@ pub fn make_call(
         }
         Call::Show => show::show(site.image.as_slice(), site.p, site.e, pen),
         Call::State => answer::state(pen, site.state(fields)?),
+        Call::Split => parts(fields, pen)?,
         Call::Help => answer::help(pen, fields.call(0)),
         Call::Quit => ok(pen, &[]),
     }

@@ -1,7 +1,7 @@
 // The calls that change stakes, fees and stake accounts.
 ghost use Rattle.std.specs.Prelude.{◌≡◌};
 ghost use Rattle.types.specs.Base.{outcome_of, outcome_by};
-ghost use Rattle.image.specs.Changes.{acceptance};
+ghost use Rattle.types.specs.Base.{acceptance};
 ghost use Rattle.integrity_pool.specs.Changes.{created_in, epoch_as, slashed_with};
 ghost use Rattle.mirror.specs.Args.{number_at, slashing_in};
 ghost use Rattle.mirror.specs.Site.{changed};

@@ -7,6 +7,7 @@ mod change_calls;
 mod failure;
 mod pool_calls;
 mod site;
+mod split_call;
 
 use calls::make_call;
 use failure::Failure;

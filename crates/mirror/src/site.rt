@@ -21,14 +21,14 @@ pub struct Site {
     pub unlocking_duration: u64,
 }
 
-// The image becomes this many zero words.
-fn set_zeros(image: &mut ArrayVec<u64, WORDS_ROOM>, count: usize)
-    requires { count ≤ WORDS_ROOM }
-    ensures { image.new.items ≡ replicate count 0 }
+// A list becomes this many zero words.
+pub fn set_zeros<const N: usize>(list: &mut ArrayVec<u64, N>, count: usize)
+    requires { count ≤ N }
+    ensures { list.new.items ≡ replicate count 0 }
 {
-    image.clear();
+    list.clear();
     // An ArrayVec has no `resize`. All the zeros fit, by the requires.
-    let _ = image.extend(std::iter::repeat_n(0, count));
+    let _ = list.extend(std::iter::repeat_n(0, count));
 }
 
 impl Site {

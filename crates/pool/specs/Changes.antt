@@ -11,7 +11,8 @@ use Rattle.image.specs.Pool.{words_in}
 use Rattle.image.specs.Layout.{Whose, last_updated_epoch, total_delegation, delta_delegation, head, seat, Words}
 use Rattle.image.specs.Seats.{publisher_index_of, side_at}
 use Rattle.image.specs.declared.pool_data.PoolDataMut.{PoolDataMut}
-use Rattle.image.specs.Changes.{self_side, whose, Change, side, changed_image, acceptance}
+use Rattle.types.specs.Base.{acceptance}
+use Rattle.image.specs.Changes.{self_side, whose, Change, side, changed_image}
 -- publisher, stake_account_positions (the account), current_epoch
 use Rattle.pool.specs.declared.changes.Delegation.{Delegation}
 

@@ -51,7 +51,7 @@ fn slash_seat(pool: PoolData<'_>, delegation: &Delegation) -> Result<usize, Refu
 }
 
 // The account's side at seat s becomes what the change makes of it.
-#[tactic(auto, unfolding(image::specs::Changes::changed_image, image::specs::Changes::acceptance))]
+#[tactic(auto, unfolding(image::specs::Changes::changed_image, types::specs::Base::acceptance))]
 fn change_side<F: FnOnce(DelegationState) -> Result<DelegationState, Refusal>>(
     pool: &mut PoolDataMut<'_>,
     s: usize,
@@ -70,7 +70,7 @@ fn change_side<F: FnOnce(DelegationState) -> Result<DelegationState, Refusal>>(
 }
 
 // The amount joins the change of the account's side.
-#[tactic(auto, using(crate::proofs::ChangeLaws::seat_lt), unfolding(crate::specs::Changes::add_delegation, crate::specs::Changes::side_change, crate::specs::Changes::account_side, image::specs::Changes::changed_image, image::specs::Changes::acceptance))]
+#[tactic(auto, using(crate::proofs::ChangeLaws::seat_lt), unfolding(crate::specs::Changes::add_delegation, crate::specs::Changes::side_change, crate::specs::Changes::account_side, image::specs::Changes::changed_image, types::specs::Base::acceptance))]
 pub fn add_delegation(
     pool: &mut PoolDataMut<'_>,
     delegation: &Delegation,
@@ -84,7 +84,7 @@ pub fn add_delegation(
 }
 
 // The amount leaves it, by the position's state.
-#[tactic(auto, using(crate::proofs::ChangeLaws::seat_lt), unfolding(crate::specs::Changes::remove_delegation, crate::specs::Changes::side_change, crate::specs::Changes::account_side, image::specs::Changes::changed_image, image::specs::Changes::acceptance))]
+#[tactic(auto, using(crate::proofs::ChangeLaws::seat_lt), unfolding(crate::specs::Changes::remove_delegation, crate::specs::Changes::side_change, crate::specs::Changes::account_side, image::specs::Changes::changed_image, types::specs::Base::acceptance))]
 pub fn remove_delegation(
     pool: &mut PoolDataMut<'_>,
     delegation: &Delegation,
@@ -99,7 +99,7 @@ pub fn remove_delegation(
 }
 
 // What was slashed leaves the total of the account's side, and preunlocking joins its change.
-#[tactic(auto, using(crate::proofs::ChangeLaws::slash_seat_lt), unfolding(crate::specs::Changes::apply_slash, crate::specs::Changes::side_change, crate::specs::Changes::account_side, image::specs::Changes::changed_image, image::specs::Changes::acceptance))]
+#[tactic(auto, using(crate::proofs::ChangeLaws::slash_seat_lt), unfolding(crate::specs::Changes::apply_slash, crate::specs::Changes::side_change, crate::specs::Changes::account_side, image::specs::Changes::changed_image, types::specs::Base::acceptance))]
 pub fn apply_slash(
     pool: &mut PoolDataMut<'_>,
     delegation: &Delegation,

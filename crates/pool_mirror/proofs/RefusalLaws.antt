@@ -16,6 +16,7 @@ use Rattle.positions.specs.declared.position.PositionState.TheVariants.{LOCKING,
 use Rattle.positions.specs.State.{state_by, state_call}
 use Rattle.event.specs.Adjust.{adjust_of}
 use Rattle.event.specs.Event.{Parts}
+use Rattle.split.specs.Split.{split_call}
 use Rattle.delegation.specs.Side.{Side, raised_of, lowered_of, add_of, remove_in, remove_of, slash_of}
 use Rattle.image.specs.Layout.{Words}
 use Rattle.image.specs.Seats.{publisher_index_of}
@@ -36,7 +37,7 @@ use Rattle.pool_mirror.proofs.InputLaws.{is_other}
 use Rattle.pool_mirror.specs.Inputs.{state_of}
 use Rattle.pool_mirror.specs.Answers.{number_of, payment_answer}
 use Rattle.pool_mirror.specs.Refusals.{has, Among, fresh_refusals, advance_refusals, payment_refusals, add_refusals, remove_refusals, create_refusals}
-use Rattle.pool_mirror.specs.Refusals.{slash_refusals, fee_refusals, stake_account_refusals, position_state_refusals}
+use Rattle.pool_mirror.specs.Refusals.{slash_refusals, fee_refusals, stake_account_refusals, position_state_refusals, split_refusals}
 
 -- ---- of the shapes that definitions are made of
 
@@ -231,6 +232,12 @@ module _ (words : List ℕ) (epoch unlocking : ℕ) where
   unfolding state_call
   position_state_refusals_law = search (among, by_in) depth 20
 
+-- ---- a split
+
+pub split_refusals_law : (reward : ℕ) (weights : List ℕ) (room : ℕ) → Among split_refusals (split_call reward weights room)
+unfolding split_call
+split_refusals_law reward weights room = search (among) depth 20
+
 -- ---- a number that is in no list is never given
 
 not_among : {A : Type 0} (ks : List ℕ) (k : ℕ) → has ks k ≡ false → (o : Outcome A) → Among ks o → o ≢ refused k
@@ -240,7 +247,7 @@ not_among ks k none o p e = let z : true ≡ false = sym (subst (Among ks) e p) 
 -- [8] 'Refusal 14 is shown never to occur': it is in no call's list
 pub in_no_list :
     has (fresh_refusals ++ advance_refusals ++ payment_refusals ++ add_refusals ++ remove_refusals ++ create_refusals ++ slash_refusals ++ fee_refusals
-    ++ stake_account_refusals ++ position_state_refusals) claimable_over_custody
+    ++ stake_account_refusals ++ position_state_refusals ++ split_refusals) claimable_over_custody
     ≡ false
 in_no_list = refl
 
@@ -299,6 +306,10 @@ module _ (P E : ℕ) (img : List ℕ) where
 pub position_state_zero : (words : List ℕ) (epoch unlocking : ℕ) → number_of (state_call words epoch unlocking) ≡ 0
     → is_accepted (state_call words epoch unlocking) ≡ true
 position_state_zero words epoch unlocking = zero_accepted position_state_refusals refl _ (position_state_refusals_law words epoch unlocking)
+
+pub split_zero : (reward : ℕ) (weights : List ℕ) (room : ℕ) → number_of (split_call reward weights room) ≡ 0
+    → is_accepted (split_call reward weights room) ≡ true
+split_zero reward weights room = zero_accepted split_refusals refl _ (split_refusals_law reward weights room)
 
 -- ---- a remove of stake that is UNLOCKING is always refused, and so is one with a number that is no state's
 

@@ -8,6 +8,7 @@ use Rattle.types.specs.Refusals.{publisher_stake_account_mismatch, publisher_cus
 use Rattle.types.specs.Refusals.{wrong_slash_event_order, invalid_slash_event_index, slash_event_ahead_of_now}
 use Rattle.types.specs.Refusals.{publisher_or_reward_authority_needs_to_sign, current_stake_account_should_be_undelegated}
 use Rattle.types.specs.Refusals.{stake_account_owner_needs_to_sign, account_not_enough_keys, new_stake_account_should_be_undelegated}
+use Rattle.types.specs.Refusals.{invalid_weights, zero_weight_sum}
 
 -- whether a number is in a list
 abbrev pub has : List ℕ → ℕ → Bool
@@ -58,3 +59,6 @@ stake_account_refusals =
 
 abbrev pub position_state_refusals : List ℕ
 position_state_refusals = invalid_positions ∷ does_not_fit ∷ []
+
+abbrev pub split_refusals : List ℕ
+split_refusals = invalid_weights ∷ does_not_fit ∷ zero_weight_sum ∷ []

@@ -25,7 +25,7 @@ pub fn delegation(current_epoch: u64, publisher: &[u64; 4], account: &[u64; 4]) 
 }
 
 // An account's stake with a publisher grows from the next epoch on.
-#[tactic(auto, unfolding(image::specs::Changes::acceptance))]
+#[tactic(auto, unfolding(types::specs::Base::acceptance))]
 #[unsafe(no_mangle)]
 pub extern "C" fn pool_mirror_add(
     pool: &mut [u64],
@@ -44,7 +44,7 @@ pub extern "C" fn pool_mirror_add(
 }
 
 // It falls, by the state of the position that it is taken from.
-#[tactic(auto, unfolding(image::specs::Changes::acceptance))]
+#[tactic(auto, unfolding(types::specs::Base::acceptance))]
 #[unsafe(no_mangle)]
 pub extern "C" fn pool_mirror_remove(
     pool: &mut [u64],
@@ -65,7 +65,7 @@ pub extern "C" fn pool_mirror_remove(
 }
 
 // Every seat gets this fee.
-#[tactic(auto, unfolding(image::specs::Changes::acceptance))]
+#[tactic(auto, unfolding(types::specs::Base::acceptance))]
 #[unsafe(no_mangle)]
 pub extern "C" fn pool_mirror_fee(pool: &mut [u64], p: usize, e: usize, fee: u64) -> u64
     ensures value { result ≡ number_of (fee_call p e pool.old fee) }

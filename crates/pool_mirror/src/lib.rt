@@ -13,6 +13,7 @@ use advance_plan::Given;
 use types::refusals::Refusal;
 
 pub mod changes;
+pub mod client_split;
 pub mod inputs;
 pub mod payment;
 pub mod position_state;

@@ -35,7 +35,7 @@ fn accounts(
 }
 
 // A publisher's stake account is set, changed or taken away.
-#[tactic(auto, unfolding(image::specs::Changes::acceptance))]
+#[tactic(auto, unfolding(types::specs::Base::acceptance))]
 #[unsafe(no_mangle)]
 pub extern "C" fn pool_mirror_stake_account(
     pool: &mut [u64],

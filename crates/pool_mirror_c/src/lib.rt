@@ -8,6 +8,7 @@ ghost use Rattle.pool_mirror.specs.Inputs.{given_of};
 ghost use Rattle.pool_mirror.specs.Answers.{number_of, advance_answer, one_answer};
 
 pub mod changes;
+pub mod client_split;
 pub mod payment;
 pub mod position_state;
 pub mod slash;

@@ -1,12 +1,30 @@
 -- Sums, tests, counts and the first that passes, over the numbers below n, one number more. Assumes nothing.
 use mathlib.Core.Path.{◌≡◌, refl, sym, ap, ◌∙◌}
 use mathlib.Core.Bool.{Bool, true, false, ◌&&◌, ◌||◌}
+use mathlib.Core.Logic.{◌⊎◌, inl, inr, ⊎_elim}
 use Prim.Native.Nat.{ℕ, zero, suc, ◌+◌, ◌-◌, ◌*◌, ◌≤◌, ◌<◌, zero-le, suc-le-suc}
 use native.Mathlib.Nat.{add-zero, add-suc, add-mul, add-le-add, sub-zero}
 use native.Mathlib.Numerals.{add-one}
 use native.Mathlib.Decide.{ℕ_discrete}
 use native.Mathlib.Omega.{arith}
+use lib.Dec.{ltb}
+use borrow.Author.Tests.{lt-ltb, le-ltb}
 use Rattle.types.specs.Base.{sum_below, all_below, any_below, count_below, to_nat, one_more, first_below}
+
+-- ---- tests
+
+pub lt_or_le : (a b : ℕ) → (a < b) ⊎ (b ≤ a)
+lt_or_le zero zero = inr zero-le
+lt_or_le zero (suc b) = inl (suc-le-suc zero-le)
+lt_or_le (suc a) zero = inr zero-le
+lt_or_le (suc a) (suc b) = ⊎_elim (λ p. inl (suc-le-suc p)) (λ q. inr (suc-le-suc q)) (lt_or_le a b)
+
+-- two tests that follow from each other give the same
+pub ltb_same : (a b c d : ℕ) → (a < b → c < d) → (c < d → a < b) → ltb a b ≡ ltb c d
+ltb_same a b c d f g =
+    ⊎_elim (λ l. lt-ltb a b l ∙ sym (lt-ltb c d (f l)))
+    (λ l. le-ltb a b l ∙ sym (le-ltb c d (⊎_elim (λ k. absurd (let z = g k in omega arith)) (λ k. k) (lt_or_le c d))))
+    (lt_or_le a b)
 
 -- ---- and, or
 
@@ -212,6 +230,49 @@ count_sum : (f : ℕ → Bool) (n : ℕ) → count_below n f ≡ sum_below n (λ
 unfolding sum_below count_below
 count_sum f zero = refl
 count_sum f (suc n) = rw (count_sum f n)
+
+pub to_nat_le : (a b : Bool) → (a ≡ true → b ≡ true) → to_nat a ≤ to_nat b
+to_nat_le true b h = rw (h refl) (omega arith)
+to_nat_le false b h = zero-le
+
+-- a test that passes wherever another does counts as many
+pub count_grows : (f g : ℕ → Bool) (n : ℕ) → ((i : ℕ) → f i ≡ true → g i ≡ true) → count_below n f ≤ count_below n g
+unfolding count_below
+count_grows f g zero h = omega arith
+count_grows f g (suc n) h = omega (arith, count_grows f g n h, to_nat_le (f n) (g n) (h n))
+
+-- and more, if it passes once where the other fails
+pub count_less : (f g : ℕ → Bool) (n m : ℕ) → m < n → ((i : ℕ) → f i ≡ true → g i ≡ true) → f m ≡ false → g m ≡ true
+    → count_below n f < count_below n g
+unfolding count_below
+count_less f g zero m l h e d = absurd (omega arith)
+count_less f g (suc n) m l h e d = go (ℕ_discrete m n) (λ k. count_less f g n m k h e d)
+  where
+    go : Dec (m ≡ n) → (m < n → count_below n f < count_below n g) → count_below n f + to_nat (f n) < count_below n g + to_nat (g n)
+    go (yes q) r = omega (arith, count_grows f g n h, ap to_nat (ap f (sym q) ∙ e), ap to_nat (ap g (sym q) ∙ d))
+    go (no q) r = omega (arith, r (omega arith), to_nat_le (f n) (g n) (h n))
+
+-- two tests of which never both pass
+pub count_either : (f g : ℕ → Bool) (n : ℕ) → ((i : ℕ) → f i ≡ true → g i ≡ false) → count_below n (λ i. f i || g i) ≡ count_below n f + count_below n g
+unfolding count_below
+count_either f g zero h = refl
+count_either f g (suc n) h = omega (arith, count_either f g n h, one (f n) (h n))
+  where
+    one : (t : Bool) → (t ≡ true → g n ≡ false) → to_nat (t || g n) ≡ to_nat t + to_nat (g n)
+    one true k = omega (arith, ap to_nat (k refl))
+    one false k = omega arith
+
+-- the first, then the others
+pub count_front : (f : ℕ → Bool) (n : ℕ) → count_below (suc n) f ≡ to_nat (f 0) + count_below n (λ i. f (suc i))
+unfolding count_below
+count_front f zero = omega arith
+count_front f (suc n) = omega (arith, count_front f n)
+
+-- terms with a unit more where a test passes
+pub sum_units : (f : ℕ → ℕ) (t : ℕ → Bool) (n : ℕ) → sum_below n (λ k. f k + to_nat (t k)) ≡ sum_below n f + count_below n t
+unfolding sum_below count_below
+sum_units f t zero = refl
+sum_units f t (suc n) = omega (arith, sum_units f t n)
 
 -- numbers that fail the test are not counted
 pub count_skips : (f : ℕ → Bool) (m n : ℕ) → m ≤ n → ((i : ℕ) → m ≤ i → i < n → f i ≡ false) → count_below n f ≡ count_below m f

@@ -19,6 +19,7 @@ use Rattle.types.specs.declared.refusals.Refusal.TheVariants.{PublisherStakeAcco
 use Rattle.types.specs.declared.refusals.Refusal.TheVariants.{WrongSlashEventOrder, InvalidSlashEventIndex, SlashEventAheadOfNow}
 use Rattle.types.specs.declared.refusals.Refusal.TheVariants.{PublisherOrRewardAuthorityNeedsToSign, CurrentStakeAccountShouldBeUndelegated}
 use Rattle.types.specs.declared.refusals.Refusal.TheVariants.{StakeAccountOwnerNeedsToSign, AccountNotEnoughKeys, NewStakeAccountShouldBeUndelegated}
+use Rattle.types.specs.declared.refusals.Refusal.TheVariants.{InvalidWeights, ZeroWeightSum}
 use Rattle.types.proofs.OutcomeLaws.{not_accepted}
 use Rattle.types.specs.BoolArray.{bit_at, marked}
 use Rattle.types.specs.declared.wide.Wide.{Wide}
@@ -90,7 +91,9 @@ refusal_of n =
     else if eqb n 24 then CurrentStakeAccountShouldBeUndelegated
     else if eqb n 25 then StakeAccountOwnerNeedsToSign
     else if eqb n 26 then AccountNotEnoughKeys
-    else NewStakeAccountShouldBeUndelegated
+    else if eqb n 27 then NewStakeAccountShouldBeUndelegated
+    else if eqb n 28 then InvalidWeights
+    else ZeroWeightSum
 
 again : (r : Refusal) → refusal_of (number_of r) ≡ r
 unfolding refusal_of
@@ -121,6 +124,8 @@ again CurrentStakeAccountShouldBeUndelegated = refl
 again StakeAccountOwnerNeedsToSign = refl
 again AccountNotEnoughKeys = refl
 again NewStakeAccountShouldBeUndelegated = refl
+again InvalidWeights = refl
+again ZeroWeightSum = refl
 
 -- refusals with the same number are the same
 pub number_of_fixes : (a b : Refusal) → number_of a ≡ number_of b → a ≡ b

@@ -1,9 +1,13 @@
 -- Laws of the floor of a product over a divisor, and the arithmetic of its long division. Assumes nothing.
 use mathlib.Core.Path.{◌≡◌, refl, sym, ap, ◌∙◌}
 use Prim.Native.Nat.{ℕ, ◌+◌, ◌-◌, ◌*◌, ◌/◌, ◌%◌, ◌^◌, ◌≤◌, ◌<◌}
-use native.Mathlib.Nat.{mul-le-mul, div-add-mod', lt_of_mul-lt-mul_right, div-lt_iff_lt-mul, le-div_iff_mul-le}
+use native.Mathlib.Nat.{mul-le-mul, mul-lt-mul_of_pos_right, mul-div_cancel, add-sub_of_le, div-add-mod', le_of_mul-le-mul_right, lt_of_mul-lt-mul_right}
+use native.Mathlib.Nat.{div-lt_iff_lt-mul, le-div_iff_mul-le}
 use native.Mathlib.Omega.{arith}
 use lib.Arith.{digits_div, digits_mod}
+use lib.Pow.{pow_pos, pow-add}
+use lib.Count.{count_leading_zeros}
+use Rattle.std.proofs.lemmas.Nat.{leading_length}
 use mathlib.Core.Bool.{Bool, true, false}
 use Rattle.std.specs.Prelude.{Some, None, if◌then◌else◌}
 use lib.Dec.{ltb}
@@ -54,6 +58,23 @@ upper_below n hi lo d e hl hd = omega arith
 
 pub upper_above : (n hi lo d : ℕ) → hi * 2 ^ 64 + lo ≡ n → d ≤ hi → d * 2 ^ 64 ≤ n
 upper_above n hi lo d e hd = omega arith
+
+-- a quotient stays where dividend and divisor are multiplied alike, and the remainder is multiplied too
+pub divided_back : (n d c q r : ℕ) → 0 < c → Division (n * c) (d * c) q r → Division n d q (r / c)
+divided_back n d c q r some e =
+    let le : q * d ≤ n = le_of_mul-le-mul_right {k = c} (omega (arith, e.whole)) some in
+    let k : q * d + (n - q * d) ≡ n = add-sub_of_le le in
+    let is : r ≡ (n - q * d) * c = omega (arith, e.whole, ap (λ (z : ℕ). z * c) k) in
+    let back : r / c ≡ n - q * d = ap (λ (z : ℕ). z / c) is ∙ mul-div_cancel (n - q * d) some in
+    record { whole = omega (arith, k, back); small = lt_of_mul-lt-mul_right c {m = r / c} {n = d} (rw back (rw is at (e.small))) }
+
+-- a word shifted until its highest bit is set
+pub shifted_fits : (d : ℕ) → d < 2 ^ 64 → d * 2 ^ count_leading_zeros 64 d < 2 ^ 64
+shifted_fits d h =
+    let (m, e, l, r) = leading_length 64 d h in
+    let sum : m + count_leading_zeros 64 d ≡ 64 = omega arith in
+    let whole : 2 ^ m * 2 ^ count_leading_zeros 64 d ≡ 2 ^ 64 = sym (pow-add 2 m (count_leading_zeros 64 d)) ∙ ap (λ (k : ℕ). 2 ^ k) sum in
+    omega (arith, mul-lt-mul_of_pos_right l (pow_pos (count_leading_zeros 64 d)), whole)
 
 -- two words of which the upper one is 0 are divided as one word
 pub one_word : (a b hi lo d : ℕ) (r : Divided) → Division lo d r.quotient r.remainder → hi * 2 ^ 64 + lo ≡ a * b → lo < 2 ^ 64 → hi < d

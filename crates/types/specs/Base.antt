@@ -1,5 +1,5 @@
 -- The words that all definitions share. Assumes nothing.
-use Rattle.std.specs.Prelude.{Bool, true, false, ◌&&◌, ◌||◌, ℕ, zero, suc, ◌+◌, ◌^◌, Result, Ok, Err}
+use Rattle.std.specs.Prelude.{Bool, true, false, ◌&&◌, ◌||◌, List, [], ◌∷◌, ℕ, zero, suc, ◌+◌, ◌^◌, Result, Ok, Err}
 use Rattle.types.specs.Refusals.{number_of}
 use Rattle.types.specs.declared.refusals.Refusal.{Refusal}
 
@@ -24,6 +24,10 @@ pub data Outcome (A : Type 0) : Type 0 where
 abbrev pub map_outcome : {A B : Type 0} → (A → B) → Outcome A → Outcome B
 map_outcome f (refused n) = refused n
 map_outcome f (accepted a) = accepted (f a)
+
+-- the answer of a call that has no values
+unfoldable pub acceptance : {A : Type 0} → Outcome A → Outcome (Unit {0})
+acceptance o = map_outcome (λ a. tt) o
 
 -- what comes behind an outcome: its values go on, a refusal stands
 abbrev pub and_then : {A B : Type 0} → Outcome A → (A → Outcome B) → Outcome B
@@ -86,3 +90,8 @@ one_more false r = suc r
 unfoldable pub first_below : ℕ → (ℕ → Bool) → ℕ
 first_below zero f = 0
 first_below (suc n) f = one_more (f 0) (first_below n (λ i. f (suc i)))
+
+-- the list of f 0, f 1, .. of length n
+unfoldable pub tabulate : ℕ → (ℕ → ℕ) → List ℕ
+tabulate zero f = []
+tabulate (suc n) f = f 0 ∷ tabulate n (λ i. f (suc i))

@@ -1,4 +1,5 @@
--- Document 01's table 'Turned back': every refusal number by name. The names are the Rust's errors where it has one. Assumes nothing.
+-- Document 01's table 'Turned back', and the numbers that document 02 adds: every refusal number by name.
+-- The names are the Rust's errors where it has one. Assumes nothing.
 use Rattle.std.specs.Prelude.{ℕ}
 use Rattle.types.specs.declared.refusals.Refusal.{Refusal}
 use Rattle.types.specs.declared.refusals.Refusal.TheVariants.{InvalidImage, InvalidEpoch, InvalidPublisherCaps, InvalidPositions, InvalidY}
@@ -9,6 +10,7 @@ use Rattle.types.specs.declared.refusals.Refusal.TheVariants.{PublisherStakeAcco
 use Rattle.types.specs.declared.refusals.Refusal.TheVariants.{WrongSlashEventOrder, InvalidSlashEventIndex, SlashEventAheadOfNow}
 use Rattle.types.specs.declared.refusals.Refusal.TheVariants.{PublisherOrRewardAuthorityNeedsToSign, CurrentStakeAccountShouldBeUndelegated}
 use Rattle.types.specs.declared.refusals.Refusal.TheVariants.{StakeAccountOwnerNeedsToSign, AccountNotEnoughKeys, NewStakeAccountShouldBeUndelegated}
+use Rattle.types.specs.declared.refusals.Refusal.TheVariants.{InvalidWeights, ZeroWeightSum}
 
 -- image size, P, E, n
 abbrev pub invalid_image : ℕ
@@ -99,6 +101,14 @@ account_not_enough_keys = 26
 abbrev pub new_stake_account_should_be_undelegated : ℕ
 new_stake_account_should_be_undelegated = 27
 
+-- [1] of document 02: more than 64 weights, or an output list of another length
+abbrev pub invalid_weights : ℕ
+invalid_weights = 28
+
+-- [1] of document 02: the weights add up to 0
+abbrev pub zero_weight_sum : ℕ
+zero_weight_sum = 29
+
 -- the number of a refusal
 abbrev pub number_of : Refusal → ℕ
 number_of InvalidImage = invalid_image
@@ -128,3 +138,5 @@ number_of CurrentStakeAccountShouldBeUndelegated = current_stake_account_should_
 number_of StakeAccountOwnerNeedsToSign = stake_account_owner_needs_to_sign
 number_of AccountNotEnoughKeys = account_not_enough_keys
 number_of NewStakeAccountShouldBeUndelegated = new_stake_account_should_be_undelegated
+number_of InvalidWeights = invalid_weights
+number_of ZeroWeightSum = zero_weight_sum

@@ -23,6 +23,27 @@ impl Divided {
             remainder: n % d,
         }
     }
+
+    // The same where the quotient is seldom above 1: two comparisons take less than a division.
+    fn of_near(n: u64, d: u64) -> Divided
+        requires { 0 < d }
+        ensures { Division n d result.quotient result.remainder }
+    {
+        if n < d {
+            return Divided {
+                quotient: 0,
+                remainder: n,
+            };
+        }
+        let over = n - d;
+        if over < d {
+            return Divided {
+                quotient: 1,
+                remainder: over,
+            };
+        }
+        Divided::of(n, d)
+    }
 }
 
 // x + y over d, for an x below d twice and a remainder y.
@@ -73,9 +94,9 @@ fn digit_long(h: u64, x: u64, d: u64) -> Divided
     let q = h / e;
     let s = h % e * BASE + x;
     let t = q * (BASE - d % BASE);
-    let more = t / d;
-    let last = sum_over(s, t % d, d);
-    let quotient = q + more + last.quotient;
+    let more = Divided::of_near(t, d);
+    let last = sum_over(s, more.remainder, d);
+    let quotient = q + more.quotient + last.quotient;
     Divided {
         quotient,
         remainder: last.remainder,
@@ -106,6 +127,20 @@ fn divide(hi: u64, lo: u64, d: u64) -> Divided
     }
 }
 
+// a * b over d, for a b of at most d. Both are shifted until d has its highest bit: then no digit takes more than one division.
+fn divide_shifted(a: u64, b: u64, d: u64) -> Divided
+    requires { (b ≤ d) × (0 < d) }
+    ensures { Division (a * b) d result.quotient result.remainder }
+{
+    let shift = d.leading_zeros();
+    let Wide { hi, lo } = Wide::product(a, b << shift);
+    let divided = divide(hi, lo, d << shift);
+    Divided {
+        quotient: divided.quotient,
+        remainder: divided.remainder >> shift,
+    }
+}
+
 // The floor of a * b over d, with its remainder, where the floor is a word.
 #[tactic(auto, using(crate::proofs::MulDivLaws::divisions), unfolding(crate::specs::Wide::wide_of))]
 fn mul_div_wide(a: u64, b: u64, d: u64) -> Option<Divided>
@@ -117,6 +152,9 @@ fn mul_div_wide(a: u64, b: u64, d: u64) -> Option<Divided>
     }
     if hi == 0 {
         return Some(Divided::of(lo, d));
+    }
+    if BASE <= d && b <= d {
+        return Some(divide_shifted(a, b, d));
     }
     Some(divide(hi, lo, d))
 }

@@ -1,4 +1,4 @@
-// Document 01's table 'Turned back': the refusals of the calls, by the names of the Rust's errors where it has one.
+// Document 01's table 'Turned back', and the numbers that document 02 adds: the refusals of the calls, by the names of the Rust's errors where it has one.
 ghost use Rattle.std.specs.Prelude.{◌≡◌};
 ghost use Rattle.types.specs.Refusals.{number_of};
 
@@ -33,6 +33,9 @@ pub enum Refusal {
     StakeAccountOwnerNeedsToSign = 25,
     AccountNotEnoughKeys = 26,
     NewStakeAccountShouldBeUndelegated = 27,
+    // The split's two, of document 02's [1].
+    InvalidWeights = 28,
+    ZeroWeightSum = 29,
 }
 
 impl From<Refusal> for u64 {

@@ -28,12 +28,13 @@ module _ (h x d : ℕ) (hh : h < d) where
 gather : (n d q s t tq tr lq lr : ℕ) → q * d + (s + t) ≡ n → tq * d + tr ≡ t → Division (s + tr) d lq lr → Division n d (q + tq + lq) lr
 gather n d q s t tq tr lq lr e₁ e₂ l = record { whole = omega arith; small = l.small }
 
-whole : (h x d lq lr : ℕ) → h < d → Division (s h x d + t h x d % d) d lq lr → Division (h * 2 ^ 32 + x) d (q h x d + t h x d / d + lq) lr
-whole h x d lq lr hh l =
-    gather (h * 2 ^ 32 + x) d (q h x d) (s h x d) (t h x d) (t h x d / d) (t h x d % d) lq lr (sum_is h x d hh) (div-add-mod' (t h x d) d) l
+whole : (h x d tq tr lq lr : ℕ) → h < d → Division (t h x d) d tq tr → Division (s h x d + tr) d lq lr → Division (h * 2 ^ 32 + x) d (q h x d + tq + lq) lr
+whole h x d tq tr lq lr hh m l =
+    gather (h * 2 ^ 32 + x) d (q h x d) (s h x d) (t h x d) tq tr lq lr (sum_is h x d hh) m.whole l
 
 pub returns : goal.returns
 returns c =
     let a = c.args in
+    let m = c.of_near-more in
     let l = c.sum_over-last in
-    whole a.h a.x a.d l.result.quotient l.result.remainder c.requires.0 l.ensures
+    whole a.h a.x a.d m.result.quotient m.result.remainder l.result.quotient l.result.remainder c.requires.0 m.ensures l.ensures

@@ -1,0 +1,9 @@
+pub mod RankLaws
+pub mod OrderLaws
+pub mod SplitLaws
+pub mod ThresholdLaws
+pub mod UnitLaws
+pub mod StepLaws
+pub mod CallLaws
+pub mod Theorems
+pub mod Examples
