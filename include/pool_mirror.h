@@ -27,7 +27,7 @@
 #include <stddef.h>
 #include <stdint.h>
 
-#define POOL_MIRROR_VERSION "1.5.0"
+#define POOL_MIRROR_VERSION "1.5.1"
 
 #ifdef __cplusplus
 extern "C" {

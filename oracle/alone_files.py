@@ -11,7 +11,7 @@ import time
 
 import model
 from alone_terminal import Terminals
-from forms import IMAGE_ROOM, INPUT, LARGEST, READ, THROUGH, WRITTEN
+from forms import IMAGE_ROOM, INPUT, LARGEST, MANY, READ, THROUGH, WRITTEN
 from runs import LIMIT, NOBODY, Limit, filled, image, told
 
 MILLION = 1_000_000
@@ -397,18 +397,19 @@ class Files(Terminals):
     # Input that can't be read once.
 
     def failing_input(self):
-        """A read that fails within what is passed over ends the run, though the next one would not fail. The program holds 131,072 bytes at once, and the item at hand moves to
-        the front before more is read: the first read ends within the field, the second fills the room behind it."""
+        """Within a comment and within the rest of a message, a read that fails is made again, and what comes then is read as it stands; within the rest of a list it ends the run. The
+        program holds 131,072 bytes at once, and the item at hand moves to the front before more is read: the first read ends within the field, the second fills the room behind it."""
         if not self.watch():
             yield self.untried("input that can't be read once", "no cc to build the library that stands between")
             return
         self.clean()
-        for says, journal, read in (
-                ("within a comment", b"#" + b"x" * 131_071 + b"nonzero\n", 2), ("within a message that is too long", b"advance 10 10000 0 1 " + b"a" * 131_072 + b" 5\n", 3),
-                ("within a list that is too long", b"state 8 " + b"0," * 65_536 + b" 5\n", 3)):
+        for says, journal, read, answer in (
+                ("within a comment", b"#" + b"x" * 131_071 + b"nonzero\n", 2, "ok\n"),
+                ("within a message that is too long", b"advance 10 10000 0 1 " + b"a" * 131_072 + b" 5\n", 3, told(f"advance: {MANY}")),
+                ("within a list that is too long", b"state 8 " + b"0," * 65_536 + b" 5\n", 3, told(INPUT))):
             self.put("given", journal)
             got, _ = self.watched("", f"input {read}", given=" <given")
-            yield self.verdict(f"input that can't be read once, {says}", got, told(INPUT))
+            yield self.verdict(f"input that can't be read once, {says}", got, answer)
 
     # A full disk.
 

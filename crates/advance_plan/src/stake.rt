@@ -58,7 +58,8 @@ fn seat_eligible(self_total: Amount, other_total: Amount, cap: Amount) -> SeatEl
     }
 }
 
-// 13 where a side does not roll.
+// 13 where a side does not roll. Put where it is asked, for each seat, since its answer is six words (`PublisherCaps::find` has the figure).
+#[inline(always)]
 #[tactic(auto, using(crate::proofs::StakeLaws::seats_roll))]
 fn eligible_at_seat(pool: PoolData<'_>, s: usize, cap: Amount) -> Result<SeatEpochs, Refusal>
     requires { s < pool.p }

@@ -24,16 +24,12 @@ use Rattle.event_walk.specs.declared.span.Span.{Span}
 use Rattle.event_walk.specs.Walk.{walk_length, walk_meets, walk_reads, walk_fits, drawn_at, slot_amount, gather_fits, read_by, reads_of}
 use Rattle.event_walk.specs.Span.{units_in, SpanOf}
 use Rattle.event_walk.specs.Walked.{epochs_of, NewestOf, no_amounts, Walked, sums_fit}
+use Rattle.event_walk.proofs.NewestLaws.{zeros_at}
 use Rattle.event_walk.proofs.WalkLaws.{meets_le}
 use Rattle.event_walk.proofs.SpanLaws.{walk_fits_law, walk_unfit, walk_draws}
 use Rattle.event_amounts.specs.Records.{record_in}
 use Rattle.event_amounts.specs.Gathered.{Gathers}
 use Rattle.event_amounts.proofs.RecordLaws.{record_in_words}
-
-pub zeros_at : (n k : ℕ) → ◌≡◌ {A = ℕ} (get_or (replicate n 0) k 0) 0
-zeros_at zero k = refl
-zeros_at (suc n) zero = refl
-zeros_at (suc n) (suc k) = zeros_at n k
 
 -- a position with the publisher reads what its walk reads, another one nothing
 module _ (E : ℕ) (w : Words) (words : List ℕ) (publisher : Key) (from : ℕ) where

@@ -22,7 +22,8 @@ use Rattle.event_walk.proofs.AmountLaws.{added_most, room_for_all}
 use Rattle.event_amounts.specs.Records.{records_words, record_in}
 use Rattle.event_amounts.specs.Gathered.{Gathers}
 use Rattle.event_amounts.proofs.RecordLaws.{items_count, item_position}
-use Rattle.event_amounts.proofs.GatherLaws.{Gathering, zeros_at, gather_start, gather_other, gather_unfit, gather_walked, gather_past, gather_end, reads_fit}
+use Rattle.event_walk.proofs.NewestLaws.{zeros_at}
+use Rattle.event_amounts.proofs.GatherLaws.{Gathering, gather_start, gather_other, gather_unfit, gather_walked, gather_past, gather_end, reads_fit}
 
 module _ {T : Type 0} (as_position : T → Position) (xs : List T) (E : ℕ) (w : Words) (publisher : Key) (from unlocking : ℕ) where
   abbrev words : List ℕ

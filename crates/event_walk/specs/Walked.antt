@@ -1,5 +1,5 @@
 -- What the walk's functions hand on: the newest events, and the amounts after one position's walk. Assumes nothing.
-use Rattle.std.specs.Prelude.{◌≡◌, Bool, true, List, ℕ, ◌+◌, ◌-◌, ◌<◌, ◌≤◌, eqb, ltb, length, get_or, replicate, if◌then◌else◌}
+use Rattle.std.specs.Prelude.{◌≡◌, Bool, true, List, ℕ, ◌+◌, ◌-◌, ◌<◌, ◌≤◌, eqb, ltb, length, get_or, replicate, take, if◌then◌else◌}
 use Rattle.types.specs.Base.{word, all_below}
 use Rattle.image.specs.Layout.{Words}
 use Rattle.event_walk.specs.declared.EventAmounts.{EventAmounts}
@@ -14,7 +14,7 @@ slot_before e slot = if eqb slot 0 then e - 1 else slot - 1
 
 -- the epochs of the events met
 abbrev pub epochs_of : Newest → List ℕ
-epochs_of n = n.epochs.items
+epochs_of n = take n.meets n.epochs
 
 -- the newest events that are not too old, newest first
 pub record NewestOf (E : ℕ) (w : Words) (from : ℕ) (r : Newest) : Type 0 where
@@ -24,6 +24,7 @@ pub record NewestOf (E : ℕ) (w : Words) (from : ℕ) (r : Newest) : Type 0 whe
   pub short : r.reads ≤ 52
   pub epochs : (k : ℕ) → k < length (epochs_of r) → get_or (epochs_of r) k 0 ≡ walk_epoch E w k
   pub words : (k : ℕ) → k < length (epochs_of r) → get_or (epochs_of r) k 0 < word
+  pub behind : (k : ℕ) → length (epochs_of r) ≤ k → get_or r.epochs k 0 ≡ 0
 
 -- no walk yet
 abbrev pub no_amounts : EventAmounts

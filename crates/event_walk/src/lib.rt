@@ -38,7 +38,7 @@ impl EventAmounts {
         requires { span.first ≤ span.last }
         ensures { result ≡ sums_fit (epochs_of newest.now) span self.now.amounts }
     {
-        let epochs = newest.epochs.as_slice();
+        let epochs = newest.epochs();
         for (k, epoch) in epochs.iter().enumerate() {
             if self.amounts[k].checked_add(span.units_in(*epoch)).is_none() {
                 return false;
@@ -58,7 +58,7 @@ impl EventAmounts {
         requires reads { self.old.reads + newest.now.reads < word }
         ensures { Walked newest.now span self.old self.new }
     {
-        let epochs = newest.epochs.as_slice();
+        let epochs = newest.epochs();
         for (k, epoch) in epochs.iter().enumerate() {
             self.amounts[k] += span.units_in(*epoch);
         }

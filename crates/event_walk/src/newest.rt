@@ -1,18 +1,30 @@
 // The newest events: their slots and epochs, newest first.
-ghost use Rattle.std.specs.Prelude.{◌≡◌, ◌≤◌, ◌<◌};
+ghost use Rattle.std.specs.Prelude.{◌≡◌, ◌≤◌, ◌<◌, length};
 ghost use Rattle.image.specs.Pool.{words_of};
 ghost use Rattle.event_walk.specs.Walk.{walk_length};
-ghost use Rattle.event_walk.specs.Walked.{slot_before, NewestOf};
+ghost use Rattle.event_walk.specs.Walked.{slot_before, epochs_of, NewestOf};
 
-use arrayvec::ArrayVec;
 use image::MAX_EVENTS;
 use image::pool_data::PoolData;
 
-// The epochs of the newest events that are not older than the record's, newest first, and how many events each walk reads.
-#[derive(Clone, Debug, PartialEq, Eq, Drop)]
+// The epochs of the newest events that are not older than the record's, newest first; how many they are; and how many events each walk reads.
+// The epochs stand in an array, since a caller may copy them, and an ArrayVec is not copied. Those behind the last one are 0 where they were read.
+#[derive(Clone, Copy, Debug, PartialEq, Eq)]
 pub struct Newest {
-    pub epochs: ArrayVec<u64, MAX_EVENTS>,
+    pub epochs: [u64; MAX_EVENTS],
+    pub meets: usize,
     pub reads: usize,
+}
+
+impl Newest {
+    // The epochs of the events met: no more than there is room for, whatever `meets` is.
+    #[tactic(auto, using(crate::proofs::NewestLaws::taken))]
+    pub fn epochs(&self) -> &[u64]
+        ensures epochs { result.now ≡ epochs_of self.now }
+        ensures few { length result.now ≤ 52 }
+    {
+        &self.epochs[..self.meets.min(MAX_EVENTS)]
+    }
 }
 
 // The slot in front of a slot, around the ring. Walks go by it, here and in `pool`. With a division for each slot instead, by events' numbers as in
@@ -39,7 +51,7 @@ pub fn walk_length(pool: PoolData<'_>) -> usize
 pub fn read_newest(pool: PoolData<'_>, from: u64) -> Newest
     ensures { NewestOf pool.entry.e (words_of pool.entry) from result }
 {
-    let mut epochs = ArrayVec::new();
+    let mut epochs = [0; MAX_EVENTS];
     let mut slot = (pool.num_events() % (pool.e as u64)) as usize;
     let steps = walk_length(pool);
     for k in 0..steps {
@@ -48,13 +60,15 @@ pub fn read_newest(pool: PoolData<'_>, from: u64) -> Newest
         if epoch < from {
             return Newest {
                 epochs,
+                meets: k,
                 reads: k + 1,
             };
         }
-        epochs.push(epoch);
+        epochs[k] = epoch;
     }
     Newest {
         epochs,
+        meets: steps,
         reads: steps,
     }
 }

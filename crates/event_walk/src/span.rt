@@ -47,7 +47,7 @@ pub fn span_of(newest: &Newest, position: Position, unlocking_duration: u64) -> 
     }
     let start = position.unlocking_start.0;
     if start.checked_add(unlocking_duration).is_none() {
-        let epochs = newest.epochs.as_slice();
+        let epochs = newest.epochs();
         if epochs.iter().any(|epoch| first <= *epoch) {
             return None;
         }

@@ -11,7 +11,7 @@ use integrity_pool::stake_account::{StakeAccounts, set_publisher_stake_account};
 use pool::changes::Delegation;
 use positions::Key;
 use positions::position::PositionState;
-use std::io::{self, Stdout};
+use std::io::Stdout;
 use types::refusals::Refusal;
 use types::{Amount, Epoch, Ratio};
 
@@ -36,11 +36,7 @@ impl<'a> Row<'a> {
     }
 
     // A call's line: its refusal's number or 0, and whether it left the image as it was.
-    fn line<T: Drop, F: FnOnce(&mut [u64]) -> Result<T, Refusal>>(
-        &self,
-        call_name: &str,
-        call: F,
-    ) -> io::Result<()>
+    fn line<T: Drop, F: FnOnce(&mut [u64]) -> Result<T, Refusal>>(&self, call_name: &str, call: F)
         requires { F.IsAlwaysCallable call }
     {
         let name = self.name;
@@ -48,10 +44,10 @@ impl<'a> Row<'a> {
         let answer = call(&mut pool[..]);
         let number = tell::number_of(&answer);
         let change = tell::change(&self.pool, &pool);
-        println!(self.to; "{name}: {call_name} {number}, {change}")
+        let _ = println!(self.to; "{name}: {call_name} {number}, {change}");
     }
 
-    pub fn fresh(&self, epoch: u64) -> io::Result<()> {
+    pub fn fresh(&self, epoch: u64) {
         self.line(
             "fresh",
             |pool| integrity_pool::fresh(pool, self.p, E, epoch),
@@ -59,11 +55,11 @@ impl<'a> Row<'a> {
     }
 
     // An advance and a forecast, for which the image is lent for reading alone.
-    pub fn both(&self, m: &[u8], given: Given) -> io::Result<()> {
+    pub fn both(&self, m: &[u8], given: Given) {
         self.line(
             "advance",
             |pool| integrity_pool::advance(pool, self.p, E, m, given),
-        )?;
+        );
         self.line(
             "forecast",
             |pool| integrity_pool::forecast(pool, self.p, E, m, given),
@@ -71,43 +67,39 @@ impl<'a> Row<'a> {
     }
 
     // With its lent form.
-    pub fn payment<const N: usize>(
-        &self,
-        positions: &[[u64; 9]; N],
-        claim: &Claim,
-    ) -> io::Result<()>
+    pub fn payment<const N: usize>(&self, positions: &[[u64; 9]; N], claim: &Claim)
         requires { N ≤ 257 }
     {
         let words = positions.as_flattened();
         self.line(
             "payment",
             |pool| advance_delegation_record(pool, self.p, E, words, claim),
-        )?;
+        );
         self.lent_payment(positions, claim)
     }
 
-    pub fn add(&self, whose: &Delegation) -> io::Result<()> {
+    pub fn add(&self, whose: &Delegation) {
         self.line(
             "add",
             |pool| changes::add_delegation(pool, self.p, E, whose, Amount(1)),
         )
     }
 
-    pub fn remove(&self, whose: &Delegation, state: PositionState) -> io::Result<()> {
+    pub fn remove(&self, whose: &Delegation, state: PositionState) {
         self.line(
             "remove",
             |pool| changes::remove_delegation(pool, self.p, E, whose, Amount(1), state),
         )
     }
 
-    pub fn fee(&self, fee: Ratio) -> io::Result<()> {
+    pub fn fee(&self, fee: Ratio) {
         self.line(
             "fee",
             |pool| changes::update_delegation_fee(pool, self.p, E, fee),
         )
     }
 
-    pub fn create(&self, publisher: Key, index: u64) -> io::Result<()> {
+    pub fn create(&self, publisher: Key, index: u64) {
         self.line(
             "create slash event",
             |pool| create_slash_event(pool, self.p, E, publisher, index, Epoch(9)),
@@ -115,15 +107,15 @@ impl<'a> Row<'a> {
     }
 
     // With its lent form.
-    pub fn slash(&self, slashing: &Slashing) -> io::Result<()> {
+    pub fn slash(&self, slashing: &Slashing) {
         self.line(
             "slash",
             |pool| integrity_pool::slash::slash(pool, self.p, E, slashing),
-        )?;
+        );
         self.lent_slash(slashing)
     }
 
-    pub fn account(&self, old: &[u64], new: &[u64], accounts: &StakeAccounts) -> io::Result<()> {
+    pub fn account(&self, old: &[u64], new: &[u64], accounts: &StakeAccounts) {
         self.line(
             "stake account",
             |pool| set_publisher_stake_account(pool, self.p, E, old, new, accounts),

@@ -9,7 +9,6 @@ use integrity_pool::slash::Slashing;
 use lent::payment::LentClaim;
 use lent::slash::LentSlashing;
 use positions::position::Position;
-use std::io;
 use types::refusals::Refusal;
 
 // What a call left: the image, its answer, and the record to store.
@@ -76,21 +75,17 @@ impl Row<'_> {
         core_name: &str,
         core: &Outcome<T>,
         form: &Outcome<T>,
-    ) -> io::Result<()>
+    )
         requires { (x y : T) → IsTrue (T.eq x y) ↔ (x ≡ y) }
     {
         let name = self.name;
         let number = tell::number_of(&form.answer);
         let agreement = if agree(core, form) { "as" } else { "NOT as" };
-        print!(self.to; "{name}: {form_name} {number}, {agreement} {core_name}")
+        let _ = print!(self.to; "{name}: {form_name} {number}, {agreement} {core_name}");
     }
 
     // `map` asks that the array of records has its room in memory: the bound stands here and in two callers, where a type for it is no plainer.
-    pub fn lent_payment<const N: usize>(
-        &self,
-        positions: &[[u64; 9]; N],
-        claim: &Claim,
-    ) -> io::Result<()>
+    pub fn lent_payment<const N: usize>(&self, positions: &[[u64; 9]; N], claim: &Claim)
         requires { N ≤ 257 }
     {
         let found = claim.delegation_record;
@@ -105,9 +100,9 @@ impl Row<'_> {
         let form = self.outcome(found, |pool, record| {
             lent::payment::advance_delegation_record(pool, self.p, E, &records, record, &given)
         });
-        self.compare("payment over records", "over words", &core, &form)?;
+        self.compare("payment over records", "over words", &core, &form);
         if let Ok(payment) = &form.answer {
-            print!(self.to;
+            let _ = print!(self.to;
                 ": delegator {}, publisher {}, custody falls {}, reads {}, record at {}, next {}",
                 payment.delegator_reward.0,
                 payment.publisher_reward.0,
@@ -115,12 +110,12 @@ impl Row<'_> {
                 payment.reads,
                 payment.delegation_record.last_epoch.0,
                 payment.delegation_record.next_slash_event_index,
-            )?;
+            );
         }
-        println!(self.to)
+        let _ = println!(self.to);
     }
 
-    pub fn lent_slash(&self, slashing: &Slashing) -> io::Result<()> {
+    pub fn lent_slash(&self, slashing: &Slashing) {
         let found = slashing.delegation_record;
         let core = self.outcome(found, |pool, record| {
             *record = integrity_pool::slash::slash(pool, self.p, E, slashing)?;
@@ -130,13 +125,13 @@ impl Row<'_> {
         let form = self.outcome(found, |pool, record| {
             lent::slash::slash(pool, self.p, E, record, &given)
         });
-        self.compare("slash of a lent record", "by value", &core, &form)?;
+        self.compare("slash of a lent record", "by value", &core, &form);
         if let Ok(kept) = &form.answer {
-            print!(self.to;
+            let _ = print!(self.to;
                 ": record at {}, next {}",
                 kept.last_epoch.0, kept.next_slash_event_index
-            )?;
+            );
         }
-        println!(self.to)
+        let _ = println!(self.to);
     }
 }

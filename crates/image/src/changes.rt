@@ -7,17 +7,22 @@ ghost use Rattle.image.specs.Seats.{FilledFrom};
 ghost use Rattle.image.specs.Changes.{self_side, with_slash_events, with_stake_account, with_fees};
 ghost use Rattle.image.specs.Pool.{words_of, words_in, Becomes};
 
-use crate::num_events_at;
 use crate::pool_data::{PoolData, PoolDataMut};
 use crate::seats::write_key;
+use crate::{MAX_PUBLISHERS, num_events_at};
 use positions::Key;
 
-// The words from place `at` on become this one.
+// The words from place `at` on become this one. As many as a pool of the Rust's own size has fees are filled by themselves: of a number that it
+// knows the compiler makes a quarter of the turns.
 fn fill_from(words: &mut [u64], at: usize, word: u64)
     requires { at ≤ length words.old }
     ensures { FilledFrom at word words.old words.new }
 {
-    words[at..].fill(word);
+    if words.len() - at == MAX_PUBLISHERS {
+        words[at..at + MAX_PUBLISHERS].fill(word);
+    } else {
+        words[at..].fill(word);
+    }
 }
 
 impl PoolData<'_> {

@@ -1,6 +1,5 @@
 // Answers to lines.
 ghost use Rattle.std.specs.Prelude.{◌≤◌};
-ghost use Rattle.arrayvec.specs.ArrayVec.{array_vec_len};
 ghost use Rattle.journal.specs.declared.output.TheConstants.{ROOM};
 
 use crate::calls::{CALLS, Call};
@@ -13,7 +12,7 @@ use types::refusals::Refusal;
 
 // `ok` and the values.
 pub fn ok(pen: &mut Pen, values: &[u64])
-    ensures { array_vec_len pen.new.buffer ≤ ROOM }
+    ensures { pen.new.at ≤ ROOM }
 {
     pen.text("ok");
     // By `number`: with `write!`, tried, an image of zeros takes 2.1 of its time, where no call may take more than 1.05 of what it took.
@@ -26,7 +25,7 @@ pub fn ok(pen: &mut Pen, values: &[u64])
 
 // `ok` and a state's name.
 pub fn state(pen: &mut Pen, state: PositionState)
-    ensures { array_vec_len pen.new.buffer ≤ ROOM }
+    ensures { pen.new.at ≤ ROOM }
 {
     // A pen takes all text, here and below.
     let _ = writeln!(pen, "ok {}", state.name());
@@ -34,7 +33,7 @@ pub fn state(pen: &mut Pen, state: PositionState)
 
 // A refusal's number.
 pub fn refused(pen: &mut Pen, refusal: Refusal)
-    ensures { array_vec_len pen.new.buffer ≤ ROOM }
+    ensures { pen.new.at ≤ ROOM }
 {
     let _ = writeln!(pen, "refused {}", u64::from(refusal));
 }
@@ -73,7 +72,7 @@ fn answer_of(call: Call) -> &'static str {
 
 // A call with its fields and its answer, or every call with its fields. The first line says how many follow.
 pub fn help(pen: &mut Pen, call: Option<Call>)
-    ensures { array_vec_len pen.new.buffer ≤ ROOM }
+    ensures { pen.new.at ≤ ROOM }
 {
     let Some(call) = call else {
         ok(pen, &[CALLS.len() as u64]);
@@ -100,7 +99,7 @@ fn place(pen: &mut Pen, call: Call, field: Option<usize>) -> fmt::Result {
 
 // A wrong line: its number, the call and the field where the line is at fault itself, and what is wrong with it.
 pub fn wrong(pen: &mut Pen, line: u64, wrong: &Wrong)
-    ensures { array_vec_len pen.new.buffer ≤ ROOM }
+    ensures { pen.new.at ≤ ROOM }
 {
     let _ = write!(pen, "line {line}: ");
     if let Some(call) = wrong.call

@@ -21,7 +21,7 @@ pub const BYTES_ROOM: usize = 40972;
 pub const WORDS_ROOM: usize = 174552;
 
 // The words of a position list: 257 positions, one more than the library accepts.
-const POSITIONS_ROOM: usize = 2313;
+pub const POSITIONS_ROOM: usize = 2313;
 
 // 65 weights, one more than the library accepts.
 const WEIGHTS_ROOM: usize = 65;
@@ -276,7 +276,8 @@ impl Fields {
         unended(kind, stop)?;
         self.store(kind, input.item(stop))?;
         if stop == Stop::TooLong {
-            input.pass_over(Over::Item)?;
+            // A read that fails here is made again for what is behind the item, and told if that fails too.
+            let _ = input.pass_over(Over::Item);
         }
         Ok(())
     }

@@ -1,7 +1,8 @@
 // Standard input, an item at a time. The buffer has to hold one item, not one line.
-ghost use Rattle.std.specs.Prelude.{◌≡◌, ◌+◌, ◌-◌, ◌<◌, ◌≤◌, min, length, replicate, slice_range, take, IfOk};
+ghost use Rattle.std.specs.Prelude.{◌≡◌, ◌+◌, ◌-◌, ◌<◌, ◌≤◌, min, length, replicate, slice_range, take, IfOk, IfErr};
 ghost use Rattle.journal.specs.Bytes.{has, at_hand, AtHand, StopsAt, is_over, ends_at, counted_of};
 ghost use Rattle.journal.specs.declared.input.TheConstants.{ROOM};
+ghost use Rattle.journal.specs.declared.fault.Fault.TheVariants.{NoInput};
 
 use crate::fault::Fault;
 use std::io::{Read, Stdin};
@@ -112,8 +113,12 @@ impl Input {
         ensures end { IfOk result (λ count. self.new.end + self.old.item ≡ self.old.end + count) }
         ensures front { IfOk result (λ _. self.new.item ≡ 0) }
         ensures kept { IfOk result (λ _. take (self.old.end - self.old.item) self.new.buffer ≡ slice_range self.old.buffer self.old.item self.old.end) }
+        ensures failed { IfErr result (λ fault. fault ≡ NoInput) }
     {
-        self.buffer.copy_within(self.item..self.end, 0);
+        // An item at the front is not gone over again: a long one may come in as many reads as it has bytes.
+        if 0 < self.item {
+            self.buffer.copy_within(self.item..self.end, 0);
+        }
         self.at -= self.item;
         self.end -= self.item;
         self.item = 0;
@@ -140,7 +145,8 @@ impl Input {
 
     // Passes over bytes, and says which is the first that stays to be read: none where the input ends.
     pub fn pass_over(&mut self, over: Over) -> Result<Option<u8>, Fault>
-        ensures { IfOk result (λ byte. AtHand byte self.new.buffer self.new.at self.new.end) }
+        ensures byte { IfOk result (λ byte. AtHand byte self.new.buffer self.new.at self.new.end) }
+        ensures failed { IfErr result (λ fault. fault ≡ NoInput) }
     {
         // So many reads at most, which no input has: a loop has to end, and what is passed over makes no room less.
         for _ in 0..u64::MAX {
@@ -166,6 +172,7 @@ impl Input {
         ensures here { IfOk result (λ _. self.new.at < self.new.end) }
         ensures kept { IfOk result (λ _. at_hand self.new.buffer self.new.at self.new.end ≡ at_hand self.old.buffer self.old.at self.old.end) }
         ensures behind { IfOk result (λ byte. AtHand byte self.new.buffer (self.new.at + 1) self.new.end) }
+        ensures failed { IfErr result (λ fault. fault ≡ NoInput) }
     {
         if self.end - self.at == 1 {
             self.item = self.at;
@@ -179,7 +186,8 @@ impl Input {
 
     // Passes over spaces, and over a carriage return at the line's end, and says which byte is at hand: none where the input ends.
     pub fn next_byte(&mut self) -> Result<Option<u8>, Fault>
-        ensures { IfOk result (λ byte. AtHand byte self.new.buffer self.new.at self.new.end) }
+        ensures byte { IfOk result (λ byte. AtHand byte self.new.buffer self.new.at self.new.end) }
+        ensures failed { IfErr result (λ fault. fault ≡ NoInput) }
     {
         let byte = self.pass_over(Over::Spaces)?;
         if byte != Some(b'\r') {
@@ -195,7 +203,8 @@ impl Input {
 
     // Reads the item at hand, up to a space or a line's end. Where neither is there, more is read.
     pub fn next_item(&mut self) -> Result<Stop, Fault>
-        ensures { IfOk result (λ stop. StopsAt stop self.new.buffer self.new.at self.new.end) }
+        ensures stop { IfOk result (λ stop. StopsAt stop self.new.buffer self.new.at self.new.end) }
+        ensures failed { IfErr result (λ fault. fault ≡ NoInput) }
     {
         self.item = self.at;
         // A `loop`, since how often it goes depends on what each read brings.

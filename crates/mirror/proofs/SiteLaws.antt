@@ -1,15 +1,14 @@
--- The place of an image's next word other than 0, and an `extend` that fits. Assumes nothing.
+-- The place of an image's next word other than 0, and zeros put behind zeros. Assumes nothing.
+use mathlib.Core.Bool.{true≢false}
 use Rattle.std.proofs.Common.{◌≡◌, ℕ, ◌+◌, ◌-◌, ◌≤◌, List, length, drop, get_or, ◌++◌, Option, Some, Result, Ok, Err, Bool, not, eqb}
-use Rattle.std.proofs.Common.{arith, length-append, length-drop, refl, sym, ap}
+use Rattle.std.proofs.Common.{arith, append_assoc, length-append, length-drop, refl, ap, sym, ◌∙◌}
 use Rattle.std.proofs.lemmas.Bool.Decides.{nat_tests}
-use Rattle.std.proofs.lemmas.Iterator.{YieldsList}
 use Rattle.std.proofs.lemmas.Iterator.Consumers.{nth_from_yields_List}
-use Rattle.std.proofs.lemmas.List.{get_or-drop}
+use Rattle.std.proofs.lemmas.List.{get_or-drop, length-replicate, replicate-append-replicate}
 use Rattle.std.proofs.lemmas.List.Sums.{fails_before_first, passes_at_first}
 use Rattle.std.proofs.lemmas.Option.{slice_get_within}
-use Rattle.std.specs.Iterator.{YieldsThen}
 use Rattle.std.specs.List.{position}
-use Rattle.std.specs.Prelude.{unwrap_or, OnOk, OnErr}
+use Rattle.std.specs.Prelude.{unwrap_or, replicate, IsOk, OnOk, ◌↔◌}
 use Rattle.mirror.specs.Site.{NextNonzero}
 
 abbrev pub is_nonzero : ℕ → Bool
@@ -25,12 +24,17 @@ pub position_is_next : (image rest : List ℕ) (from : ℕ) → from ≤ length 
 position_is_next image rest from h e =
     grind (arith, nat_tests, at_rest image from, fails_before_first, passes_at_first is_nonzero rest 0, length-drop)
 
--- an `extend` by no more than there is room for appends all
-pub extend_fits : {S E : Type 0} {steps : S → Option ℕ → S → Type 0} {s : S} (old all now : List ℕ) (room : ℕ) (r : Result (Unit {0}) E)
-    → length old + length all ≤ room → YieldsList steps (λ x. x) s all → OnOk r (now ≡ old ++ all) → OnErr r (length now ≡ room)
-    → OnErr r ((it : S) × (xs : List ℕ) × (x : ℕ) × (rest : S) × (it ≡ s) × YieldsThen steps it xs (Some x) rest × (now ≡ old ++ xs))
-    → now ≡ old ++ all
-extend_fits old all now room (Ok u) l y ok full more = ok
-extend_fits old all now room (Err e) l y ok full (it, xs, x, rest, same, run, is) =
-    let within = slice_get_within all (length xs) x (sym (nth_from_yields_List (Some x) rest (length xs) (xs, rw same at run, refl) y)) in
-    absurd (omega (arith, full, ap length is, length-append old xs))
+-- zeros behind a list and zeros, where there is room for all
+pub zeros_more : {E : Type 0} (old now part more : List ℕ) (n m room : ℕ) (r : Result (Unit {0}) E) → now ≡ old ++ replicate n 0 → part ≡ replicate m 0
+    → length old + (n + m) ≤ room → (IsOk r ↔ (length now + length part ≤ room)) → OnOk r (more ≡ now ++ part) → more ≡ old ++ replicate (n + m) 0
+zeros_more old now part more n m room (Ok u) zeros last h fits ok =
+    ok ∙ rw (zeros, last, append_assoc old (replicate n 0) (replicate m 0), replicate-append-replicate {A = ℕ} n m 0) refl
+zeros_more old now part more n m room (Err e) zeros last h fits ok =
+    absurd (true≢false (sym (fits.1 (omega (
+      arith,
+      ap length zeros,
+      ap length last,
+      length-append old (replicate n 0),
+      length-replicate {A = ℕ} n 0,
+      length-replicate {A = ℕ} m 0,
+    )))))

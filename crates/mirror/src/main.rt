@@ -83,7 +83,11 @@ impl Run {
         match self.input.next_byte()? {
             None => Ok(false),
             Some(b'\n') => Ok(self.new_line()),
-            Some(b'#') => Ok(self.input.pass_over(Over::Line)?.is_some()),
+            Some(b'#') => {
+                // The line's end is left to the next step, which reads again where a read failed or the input ended.
+                let _ = self.input.pass_over(Over::Line);
+                Ok(true)
+            }
             Some(_) => self.call_line(rt, process),
         }
     }

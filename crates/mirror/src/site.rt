@@ -1,5 +1,6 @@
 // What a run keeps of the pool, and the calls that lay it out.
-ghost use Rattle.std.specs.Prelude.{◌≡◌, ◌≤◌, [], length, replicate, IfOk, OnErr};
+ghost use Rattle.arrayvec.specs.ArrayVec.{array_vec_len};
+ghost use Rattle.std.specs.Prelude.{◌≡◌, ◌≤◌, ◌+◌, ◌++◌, [], length, replicate, IfOk, OnErr};
 ghost use Rattle.journal.specs.declared.fields.TheConstants.{WORDS_ROOM};
 ghost use Rattle.mirror.specs.Site.{NextNonzero, with_image, with_settings, laid_out, SavedAs};
 
@@ -21,14 +22,29 @@ pub struct Site {
     pub unlocking_duration: u64,
 }
 
-// A list becomes this many zero words.
+// The zeros that are put at once.
+const ZEROS: [u64; 512] = [0; 512];
+
+// So many zero words more. An ArrayVec has no `resize`, and by `extend` with one after the other an image takes twice as long. All of them fit, by the
+// requires.
+fn add_zeros<const N: usize>(list: &mut ArrayVec<u64, N>, count: usize)
+    requires { array_vec_len list.old + count ≤ N }
+    ensures { list.new.items ≡ list.old.items ++ replicate count 0 }
+{
+    for _part in 0..count / 512 {
+        let _ = list.try_extend_from_slice(&ZEROS);
+    }
+    let _ = list.try_extend_from_slice(&ZEROS[..count % 512]);
+}
+
+// A list becomes this many zero words. Those that it has are written over: `clear` writes each of them too.
 pub fn set_zeros<const N: usize>(list: &mut ArrayVec<u64, N>, count: usize)
     requires { count ≤ N }
     ensures { list.new.items ≡ replicate count 0 }
 {
-    list.clear();
-    // An ArrayVec has no `resize`. All the zeros fit, by the requires.
-    let _ = list.extend(std::iter::repeat_n(0, count));
+    list.truncate(count);
+    image::clear(list.as_mut_slice());
+    add_zeros(list, count - list.len());
 }
 
 impl Site {

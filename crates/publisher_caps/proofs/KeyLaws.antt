@@ -3,7 +3,7 @@ use mathlib.Core.Path.{◌≡◌, refl, sym, ap, ◌∙◌}
 use mathlib.Core.Bool.{Bool, true, false, ◌&&◌}
 use mathlib.Core.List.{List, [], ◌∷◌}
 use Prim.Native.Nat.{ℕ, zero, suc, ◌+◌, ◌*◌, ◌/◌, ◌%◌, ◌^◌, ◌≤◌, ◌<◌}
-use native.Mathlib.Nat.{add-zero, add-suc, mul_assoc, pow-suc, add_assoc, mod-eq_of_lt}
+use native.Mathlib.Nat.{add-zero, add-suc, mul-le-mul_right, mul_assoc, pow-suc, add_assoc, mod-eq_of_lt}
 use native.Mathlib.Omega.{arith}
 use Rattle.std.proofs.Common.{lit<}
 use lib.ListN.{get_or}
@@ -44,6 +44,11 @@ pub bytes_below : (m : List ℕ) → ((i : ℕ) → get_or m i 0 < 256) → (at 
 unfolding big_endian
 bytes_below m small at zero = omega arith
 bytes_below m small at (suc n) = rw (pow-suc 256 n) (let r = bytes_below m small at n in let b = small (at + n) in omega arith)
+
+-- of two lists of 32 bytes the first eight decide, where they differ
+pub first_above : (a b : List ℕ) → ((i : ℕ) → get_or a i 0 < 256) → big_endian a 0 8 < big_endian b 0 8 → big_endian a 0 32 < big_endian b 0 32
+first_above a b small h =
+    rw (split a 0 8 24, split b 0 8 24) (let r = bytes_below a small 8 24 in let s = mul-le-mul_right (256 ^ 24) h in omega arith)
 
 -- eight bytes, the first the highest
 pub eight : (m : List ℕ) (at : ℕ)

@@ -9,16 +9,14 @@ use native.Mathlib.Numerals.{add-one}
 use native.Mathlib.Decide.{ℕ_discrete}
 use native.Mathlib.Omega.{arith}
 use lib.Dec.{ltb}
-use lib.ListN.{length, get_or, take, drop}
-use borrow.Author.Tests.{lt-ltb, le-ltb, ltb-true}
+use lib.ListN.{length, get_or, take, drop, replicate}
+use borrow.Author.Tests.{lt-ltb, le-ltb, ltb-true, ltb-false}
 use Rattle.std.specs.Simd.{first_chunks}
 use Rattle.std.proofs.lemmas.List.{get_or-take, get_or-drop, length-take, length-drop, take-take, drop-take, drop-drop}
 use Rattle.types.proofs.Below.{and_left, and_right, all_each, all_not, all_at}
 use Rattle.types.proofs.ListLaws.{chunk_at}
-use Rattle.publisher_caps.specs.Key.{big_endian, little_endian, number_by}
+use Rattle.publisher_caps.specs.Key.{big_endian, little_endian}
 use Rattle.publisher_caps.specs.Message.{key_at, cap_at, key_word, row_of, key_before, ascends, none_zero}
-use Rattle.publisher_caps.specs.declared.key.KeyNumber.{KeyNumber}
-use Rattle.publisher_caps.proofs.KeyLaws.{Small, lt_of, not_less_says}
 
 -- ---- rows as slices of the message
 
@@ -96,6 +94,11 @@ module _ (m : List ℕ) where
         let we = row_cap_at cap e in
         λ j. record { pubkey = record { 0 = wa j; 1 = wb j; 2 = wc j; 3 = wd j }; cap = we j }
 
+-- a row of zeros stands in front of the first
+pub zero_row : (big_endian (replicate 40 0) 0 32 ≡ 0) × (big_endian (replicate 40 0) 0 8 ≡ 0)
+unfolding big_endian
+zero_row = (refl, refl)
+
 -- each of the first i keys is above the one before it
 pub record Climbs (m : List ℕ) (i : ℕ) : Type 0 where
   pub each : (j : ℕ) → j < i → key_before m j < key_at m j
@@ -135,20 +138,15 @@ module _ (m : List ℕ) where
   climbs_not zero rows l h = sym (and_right (ascends m rows) (none_zero m rows) (zero_first rows l h))
   climbs_not (suc i) rows l h = sym (and_left (ascends m rows) (none_zero m rows) (ascends_not i rows (omega arith) (rw (add-one i) h)))
 
-  -- k is read of row i of the rows that the message is cut into
-  module _
-      (rows : List (List ℕ)) (n i : ℕ) (d : List ℕ) (k : KeyNumber) (cut : rows ≡ first_chunks 40 n (drop 11 m)) (l : i < n)
-      (read : number_by k ≡ big_endian (get_or rows i d) 0 32)
-    where
-      pub key_read : number_by k ≡ key_at m i
-      key_read = row_key_at m _ i (row_at m rows n i d cut l) _ read
+  -- row i of the rows that the message is cut into
+  module _ (rows : List (List ℕ)) (n i : ℕ) (d : List ℕ) (cut : rows ≡ first_chunks 40 n (drop 11 m)) (l : i < n) where
+    pub key_read : big_endian (get_or rows i d) 0 32 ≡ key_at m i
+    key_read = row_key_at m _ i (row_at m rows n i d cut l) _ refl
 
-      -- b, the key before, is not below k: so the keys do not climb
-      pub key_not_above :
-          (b : KeyNumber) (t : Bool) → number_by b ≡ key_before m i → Small b → Small k → t ≡ lt_of b k → t ≡ false →
-          false ≡ (ascends m n && none_zero m n)
-      key_not_above b t same small_b small_k test h =
-          climbs_not i n l (omega (arith, not_less_says b k small_b small_k t test h, key_read, same))
+    -- the row before is not below it: so the keys do not climb
+    pub key_not_above : (before : List ℕ) (t : Bool) → big_endian before 0 32 ≡ key_before m i
+        → t ≡ ltb (big_endian before 0 32) (big_endian (get_or rows i d) 0 32) → t ≡ false → false ≡ (ascends m n && none_zero m n)
+    key_not_above before t same test h = climbs_not i n l (omega (arith, ltb-false _ _ (sym test ∙ h), key_read, same))
 
   -- the tests from what they say of the keys
   pub ordered_holds : (rows : ℕ) → ((i j : ℕ) → i < j → j < rows → key_at m i < key_at m j) → ((i : ℕ) → i < rows → 0 < key_at m i)

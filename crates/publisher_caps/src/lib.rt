@@ -70,19 +70,32 @@ fn key_number(row: &[u8; 40]) -> KeyNumber
     KeyNumber(be64(row, 0), be64(row, 8), be64(row, 16), be64(row, 24))
 }
 
+// Whether a row's key is above that of the row before, whose first words are known. Where these tell it, the others are not read: with whole keys,
+// tried, the check of a message of 1,024 rows takes 2.5 times as long.
+#[tactic(auto, using(crate::proofs::KeyLaws::first_above, crate::proofs::KeyLaws::lt_number))]
+fn rises(before: &[u8; 40], before_first: u64, row: &[u8; 40], first: u64) -> bool
+    requires before { before_first ≡ big_endian before.now 0 8 }
+    requires row { first ≡ big_endian row.now 0 8 }
+    ensures { result ≡ ltb (big_endian before.now 0 32) (big_endian row.now 0 32) }
+{
+    before_first < first || key_number(before) < key_number(row)
+}
+
 // Whether the keys of the first `rows` rows ascend strictly and none is zero: each is above the one before it, the first above zero.
-#[tactic(auto, using(crate::proofs::KeyLaws::number_zero, crate::proofs::RowLaws::key_not_above, crate::proofs::RowLaws::climbs_all))]
+#[tactic(auto, using(crate::proofs::RowLaws::zero_row, crate::proofs::RowLaws::key_not_above, crate::proofs::RowLaws::climbs_all))]
 fn ascending(m: &[u8], rows: usize) -> bool
     requires { 11 + rows * 40 ≤ length m.now }
     ensures { result ≡ (ascends m.now rows && none_zero m.now rows) }
 {
-    let mut before = KeyNumber::default();
+    let mut before = &[0; 40];
+    let mut before_first = 0;
     for row in rows_in(m, rows) {
-        let key = key_number(row);
-        if !(before < key) {
+        let first = be64(row, 0);
+        if !rises(before, before_first, row, first) {
             return false;
         }
-        before = key;
+        before = row;
+        before_first = first;
     }
     true
 }
@@ -278,6 +291,7 @@ impl<'a> PublisherCaps<'a> {
 
     // The row of a key among all rows, MAX_CAPS for none as `search` answers. The search begins with the rows from `low` up to `high` where the key
     // can stand nowhere else, and with all rows otherwise.
+    #[inline(always)]
     fn search_from(&self, low: usize, high: usize, key: KeyNumber) -> usize
         ensures { result ≡ unwrap_or (lookup self.now.message.now (number_by key) 0 self.now.rows) MAX_CAPS }
     {
@@ -287,7 +301,9 @@ impl<'a> PublisherCaps<'a> {
         self.search(0, self.rows, &key)
     }
 
-    // The row of a key. A guess that it stands from `low` up to `high` makes it faster where it is right.
+    // The row of a key. A guess that it stands from `low` up to `high` makes it faster where it is right. It is asked once for each seat, and put where
+    // it is asked: as a call, with that of `eligible_at_seat`, a forecast takes up to 1.3 of its time.
+    #[inline(always)]
     #[tactic(auto, using(crate::proofs::LookupLaws::none_told))]
     pub fn find(&self, low: usize, high: usize, key: Key) -> Option<usize>
         ensures { result ≡ lookup self.now.message.now (number_of key) 0 self.now.rows }

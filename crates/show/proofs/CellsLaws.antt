@@ -1,5 +1,5 @@
 -- Laws of signed words and keys as people read them. Assumes nothing.
-use Rattle.std.proofs.Common.{◌≡◌, ℕ, ◌<◌, ◌-◌, ◌^◌, Bool, true, false, List, [], ◌∷◌, ◌++◌, length, refl, arith, append-nil, append_assoc}
+use Rattle.std.proofs.Common.{◌≡◌, ℕ, ◌<◌, ◌-◌, ◌/◌, ◌%◌, ◌^◌, Bool, true, false, List, [], ◌∷◌, ◌++◌, length, refl, arith, append-nil, append_assoc}
 use Rattle.std.proofs.Math.Nat.{sub_self}
 use Rattle.std.specs.Prelude.{ℤ, pos, negsuc, unsigned_abs}
 use Rattle.std.specs.List.{repeat}
@@ -9,10 +9,13 @@ use borrow.Author.Tests.{le-ltb}
 use lib.Utf8.{encode}
 use mir.Syntax.{w64}
 use Rattle.std.specs.Int.{cast_signed, is_negative}
-use Rattle.std.specs.Fmt.{decimal, signed_decimal, digits, padded_integral, format_spec, char_count}
-use Rattle.std.proofs.lemmas.Fmt as text
+use Rattle.std.specs.Fmt.{decimal, signed_decimal, padded_integral, format_spec, char_count}
+use Rattle.std.specs.Str.{IsAscii, IsUtf8}
+use Rattle.std.proofs.lemmas.Str.{IsUtf8-from_ascii}
+use Rattle.std.proofs.lemmas.Str.Ascii.{IsAscii-nil, IsAscii-cons}
+use Rattle.io.specs.Digits.{hex_digit_ascii}
 use Rattle.types.specs.Base.{half, word}
-use Rattle.show.specs.Cells.{to_right, signed_of, hex_byte}
+use Rattle.show.specs.Cells.{to_right, signed_of, hex_byte, four_bytes_of}
 
 -- a signed word's value
 pub signed_is : (w : ℕ) → w < word → cast_signed w64 w ≡ signed_of w
@@ -23,9 +26,33 @@ signed_is w below = go (ltb w half) refl
     go true e = rw e
     go false e = let q : word - w ≡ suc (word - suc w) = omega arith in rw (e, q)
 
--- what `{:02x}` writes of a byte
-pub byte_text : (b : ℕ) → b < 256 → padded_integral (format_spec 32 0 4 2 (2 ^ 64 - 1)) false [] (digits 16 false b) ≡ hex_byte b
-byte_text b below = text.hex_byte false b below
+-- a hexadecimal digit is ASCII
+digit_ascii : (d : ℕ) → d < 16 → hex_digit_ascii d < 128
+digit_ascii d below = go (ltb d 10) refl
+  where
+    go : (b : Bool) → ltb d 10 ≡ b → hex_digit_ascii d < 128
+    go true e = rw e (omega arith)
+    go false e = rw e (omega arith)
+
+-- two more of them
+byte_ascii : (b : ℕ) (rest : List ℕ) → b < 256 → IsAscii rest → IsAscii (hex_byte b ++ rest)
+byte_ascii b rest below h =
+    let high = hex_digit_ascii (b / 16) in
+    let low = hex_digit_ascii (b % 16) in
+    IsAscii-cons high (low ∷ rest) (digit_ascii (b / 16) (omega arith)) (IsAscii-cons low rest (digit_ascii (b % 16) (omega arith)) h)
+
+-- so the digits of four bytes are a text
+pub four_bytes_text : (w : ℕ) → IsUtf8 (four_bytes_of w)
+unfolding four_bytes_of
+four_bytes_text w =
+    let fourth : List ℕ = hex_byte (w / 256 ^ 3 % 256) in
+    let third : List ℕ = hex_byte (w / 256 ^ 2 % 256) ++ fourth in
+    let second : List ℕ = hex_byte (w / 256 % 256) ++ third in
+    IsUtf8-from_ascii (four_bytes_of w)
+    (byte_ascii (w % 256) second (omega arith)
+    (byte_ascii (w / 256 % 256) third (omega arith)
+    (byte_ascii (w / 256 ^ 2 % 256) fourth (omega arith)
+    (byte_ascii (w / 256 ^ 3 % 256) [] (omega arith) IsAscii-nil))))
 
 -- what `{:>20}` and its kin write of a number's digits
 pub column : (places : ℕ) (d : List ℕ) → padded_integral (format_spec 32 3 0 places (2 ^ 64 - 1)) false [] d ≡ to_right places d

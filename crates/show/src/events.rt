@@ -1,6 +1,5 @@
 // The table's lines on the newest events, the newest first.
 ghost use Rattle.std.specs.Prelude.{◌≡◌, ◌≤◌};
-ghost use Rattle.arrayvec.specs.ArrayVec.{array_vec_len};
 ghost use Rattle.image.specs.Pool.{words_of};
 ghost use Rattle.journal.specs.declared.output.TheConstants.{ROOM};
 ghost use Rattle.show.specs.Rows.{event_row};
@@ -54,7 +53,7 @@ pub fn event_row(pool: PoolData<'_>, event: u64) -> EventRow
 
 // The heading, and the lines of the newest events, at most e.
 pub(crate) fn rows(pool: PoolData<'_>, pen: &mut Pen) -> fmt::Result
-    ensures { array_vec_len pen.new.buffer ≤ ROOM }
+    ensures { pen.new.at ≤ ROOM }
 {
     pen.text("                 event                  slot");
     pen.text("                 epoch                     y\n");

@@ -16,7 +16,6 @@
 #![tactic(auto)]
 
 ghost use Rattle.std.specs.Prelude.{◌≡◌, ◌≤◌};
-ghost use Rattle.arrayvec.specs.ArrayVec.{array_vec_len};
 ghost use Rattle.journal.specs.declared.output.TheConstants.{ROOM};
 ghost use Rattle.show.specs.Rows.{lines_of};
 
@@ -56,7 +55,7 @@ fn table(pool: PoolData<'_>, seats: usize, pen: &mut Pen) -> fmt::Result {
 
 // The answer to `show`: refusal 1, or the table. It takes the words with P and E as they are at hand: they are checked here.
 pub fn show(words: &[u64], p: usize, e: usize, pen: &mut Pen)
-    ensures { array_vec_len pen.new.buffer ≤ ROOM }
+    ensures { pen.new.at ≤ ROOM }
 {
     match PoolData::check(words, p, e) {
         Err(refusal) => answer::refused(pen, refusal),

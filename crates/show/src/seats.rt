@@ -1,6 +1,5 @@
 // The table's lines on seats: two for each that has a publisher.
 ghost use Rattle.std.specs.Prelude.{◌≡◌, not, ◌≤◌, ◌<◌};
-ghost use Rattle.arrayvec.specs.ArrayVec.{array_vec_len};
 ghost use Rattle.image.specs.Pool.{words_of};
 ghost use Rattle.image.specs.Seats.{empty_seat};
 ghost use Rattle.journal.specs.declared.output.TheConstants.{ROOM};
@@ -119,7 +118,7 @@ pub fn seat_row(pool: PoolData<'_>, s: usize) -> SeatRow
 
 // The heading, and the lines of all seats.
 pub(crate) fn rows(pool: PoolData<'_>, pen: &mut Pen) -> fmt::Result
-    ensures { array_vec_len pen.new.buffer ≤ ROOM }
+    ensures { pen.new.at ≤ ROOM }
 {
     pen.text("  seat  publisher           side                  total                change");
     pen.text("      fee  slash events  stake account\n");
