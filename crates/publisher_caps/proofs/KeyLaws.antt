@@ -128,10 +128,6 @@ module _ (m : List ℕ) (small : (i : ℕ) → get_or m i 0 < 256) (at : ℕ) wh
 
 -- ---- four words
 
-pub number_zero : number 0 0 0 0 ≡ 0
-unfolding pair
-number_zero = refl
-
 -- the zero key
 pub key_zero : number (swapped 0) (swapped 0) (swapped 0) (swapped 0) ≡ 0
 unfolding swapped big_endian pair
